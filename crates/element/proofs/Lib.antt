@@ -1,0 +1,2 @@
+pub mod OrderLaws
+pub mod ReadingLaws
