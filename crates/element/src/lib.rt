@@ -2,8 +2,9 @@
 ghost use mathlib.Core.Path.{_≡_};
 ghost use mathlib.Core.List.{List};
 ghost use Prim.Native.Nat.{ℕ, _<_, _≤_};
-ghost use lib.ListN.{length};
+ghost use lib.ListN.{length, take};
 ghost use Rattle.std.specs.declared.option.Option.the-variants.{Some, None};
+ghost use Rattle.std.specs.declared.result.Result.the-variants.{Ok, Err};
 ghost use Rattle.std.specs.shelf.Lists.{All};
 ghost use Rattle.bytes.specs.Areas.{front};
 ghost use Rattle.element.specs.Kinds.{Coding, faultOf, madeFrom, readFrom, writeInto};
@@ -77,7 +78,8 @@ pub trait Kind: Copy {
 
     // Writes the element into the front of the area and answers its width; refused where a field is out of range.
     fn write(&self, area: &mut [u8; WIDEST]) -> Result<usize, Refusal>
-        ensures { λ r. ⌜ (r, now (area .exit)) ≡ writeInto coding (now (self .entry)) (now (area .entry)) ⌝ }
+        ensures answer { λ r. ⌜ (r, now (area .exit)) ≡ writeInto coding (now (self .entry)) (now (area .entry)) ⌝ }
+        ensures back { λ r. ⌜ elim r [ Ok n ↦ readFrom coding (take n (now (area .exit))) ≡ Ok (now (self .entry)) | Err _ ↦ Unit {0} ] ⌝ }
     {
         if let Some(_) = self.fault() {
             return Err(Refusal::FieldOutOfRange);
@@ -88,7 +90,8 @@ pub trait Kind: Copy {
 
     // The element that bytes hold, or the offset of the first field at fault.
     fn read(bytes: &[u8]) -> Result<Self, usize>
-        ensures { λ r. ⌜ r ≡ readFrom coding (now (bytes .entry)) ⌝ }
+        ensures answer { λ r. ⌜ r ≡ readFrom coding (now (bytes .entry)) ⌝ }
+        ensures only { λ r. ⌜ elim r [ Ok e ↦ (faultOf coding e ≡ None) × (coding .written e ≡ now (bytes .entry)) | Err at ↦ at < coding .width ] ⌝ }
     {
         let Some(element) = Self::value(bytes) else {
             return Err(0);
