@@ -1,0 +1,3 @@
+pub mod Middles
+pub mod Seals
+pub mod Writes

@@ -1,0 +1,71 @@
+-- The bytes of a frame, and the cycles that its numbers are taken from.
+use Prim.Native.Nat.{ℕ, _/_, _%_}
+use mathlib.Core.Bool.{cond}
+use mathlib.Core.List.{List, [], _∷_, _++_}
+use lib.Dec.{ltb}
+use lib.ListN.{length}
+use Rattle.std.specs.declared.option.Option.{Option}
+use Rattle.std.specs.declared.option.Option.the-variants.{Some, None}
+use Rattle.std.specs.declared.result.Result.{Result}
+use Rattle.std.specs.declared.result.Result.the-variants.{Ok, Err}
+use Rattle.bytes.specs.Checks.{check}
+use Rattle.bytes.specs.Numbers.{bytes16}
+use Rattle.refusal.specs.declared.Refusal.{Refusal}
+use Rattle.refusal.specs.declared.Refusal.the-variants.{NumberPastCycle}
+use Rattle.frame.specs.declared.Format.{Format}
+use Rattle.frame.specs.declared.Frame.{Frame}
+use Rattle.frame.specs.declared.Frame.the-variants.{Bare, Laden}
+use Rattle.frame.specs.declared.Side.{Side}
+use Rattle.frame.specs.declared.Side.the-variants.{Mast, Hut}
+use Rattle.frame.specs.declared.header.Header.{Header}
+
+-- the byte that names a side as the sender
+abbrev pub senderByte : Side → ℕ
+senderByte Mast = 1
+senderByte Hut = 2
+
+-- the twelve bytes of a header: the mark "MHL", version 1, and the fields
+abbrev pub headerBytes : Header → List ℕ
+headerBytes h =
+    0x4D ∷ 0x48 ∷ 0x4C ∷ 0 ∷ 1 ∷ h .tag ∷ h .sender
+    ∷ (h .ack / 256 % 256) ∷ (h .ack % 256) ∷ (h .number / 256 % 256) ∷ (h .number % 256) ∷ h .width ∷ []
+
+-- some bytes with their check behind them
+abbrev pub sealedBytes : List ℕ → List ℕ
+sealedBytes bs = bs ++ bytes16 (check bs)
+
+-- the header of a frame that carries its element as bytes
+abbrev pub headerOf : Side → Frame (List ℕ) → Header
+headerOf side (Bare ack) = record { tag = 1; sender = senderByte side; ack = ack; number = 0; width = 0 }
+headerOf side (Laden ack number element) = record { tag = 2; sender = senderByte side; ack = ack; number = number; width = length element }
+
+-- the bytes that a frame carries
+abbrev pub payload : Frame (List ℕ) → List ℕ
+payload (Bare ack) = []
+payload (Laden ack number element) = element
+
+-- the bytes of a frame: its header, what it carries, and the check of both
+unfoldable pub frameBytes : Side → Frame (List ℕ) → List ℕ
+frameBytes side f = sealedBytes (headerBytes (headerOf side f) ++ payload f)
+
+module _ {A B : Type 0} (f : A → B) where
+  -- the same frame with another form of its element
+  abbrev pub mapped : Frame A → Frame B
+  mapped (Bare ack) = Bare ack
+  mapped (Laden ack number element) = Laden ack number (f element)
+
+  -- the same of an answer
+  abbrev pub answered : Result (Frame A) Refusal → Result (Frame B) Refusal
+  answered (Ok x) = Ok (mapped x)
+  answered (Err e) = Err e
+
+-- the refusal of a frame whose acknowledgement or number is not below its cycle
+abbrev pub pastCycle : {E : Type 0} → Format → Frame E → Option Refusal
+pastCycle format (Bare ack) = cond (ltb ack (format .acks)) None (Some (NumberPastCycle 7))
+pastCycle format (Laden ack number element) =
+    cond (ltb ack (format .acks)) (cond (ltb number (format .numbers)) None (Some (NumberPastCycle 9))) (Some (NumberPastCycle 7))
+
+-- nothing more to say, or the refusal
+abbrev pub refusing : Option Refusal → Result (Unit {0}) Refusal
+refusing None = Ok tt
+refusing (Some r) = Err r
