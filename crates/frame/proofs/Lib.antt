@@ -1,3 +1,4 @@
 pub mod Middles
 pub mod Seals
+pub mod Trips
 pub mod Writes

@@ -1,15 +1,23 @@
 -- The check behind the bytes that it covers.
 use mathlib.Core.Path.{_≡_, refl, sym, ap, _∙_}
-use mathlib.Core.Bool.{true}
+use mathlib.Core.Bool.{true, not}
 use mathlib.Core.List.{List, [], _∷_, _++_}
 use Prim.Native.Nat.{ℕ, _+_, _-_, _*_, _/_, _%_, _<_, _≤_}
 use native.Mathlib.Omega.{arith}
+use lib.Dec.{ltb}
 use lib.ListN.{length, take, drop, getD, length-append}
+use Rattle.std.specs.shelf.Lists.{All}
+use Rattle.std.proofs.shelf.Elements.{all-getD}
+use Rattle.std.proofs.shelf.Lists.{take-at, getD-at, getD-append-add, take-append-drop, drop-more, drop-all}
+use Rattle.std.proofs.shelf.Tests.{and-parts, and-from, eq-eqb, eqb-true}
+use Rattle.std.proofs.shelf.Ways.{tells}
 use Rattle.bytes.proofs.Fronts.{take-front, front-again}
+use Rattle.bytes.proofs.Numbers.{bytes-number16}
 use Rattle.bytes.specs.Areas.{front}
 use Rattle.bytes.specs.Checks.{check}
-use Rattle.bytes.specs.Numbers.{bytes16}
+use Rattle.bytes.specs.Numbers.{bytes16, number16}
 use Rattle.frame.specs.Formats.{headerBytes, sealedBytes}
+use Rattle.frame.specs.Reads.{isSealed}
 use Rattle.frame.specs.declared.header.Header.{Header}
 
 -- the check behind the front
@@ -21,3 +29,33 @@ front-sealed n old xs ys e p =
 -- how many bytes a header, what follows it and the check are
 pub length-sealed : (h : Header) (bs : List ℕ) → length (sealedBytes (headerBytes h ++ bs)) ≡ 14 + length bs
 length-sealed h bs = simp length-append (omega arith)
+
+pub number-bytes16 : (n : ℕ) → n < 65536 → number16 (n / 256 % 256) (n % 256) ≡ n
+number-bytes16 n h = omega arith
+
+-- bytes with their check behind them are sealed
+pub sealed-back : (bs : List ℕ) → isSealed (sealedBytes bs) ≡ true
+sealed-back bs =
+    let c = check bs in
+    let s = sealedBytes bs in
+    let small : c < 65536 = omega arith in
+    let long : length s ≡ length bs + 2 = simp length-append (omega arith) in
+    let n : length s - 2 ≡ length bs = omega arith in
+    let m : length s - 1 ≡ length bs + 1 = omega arith in
+    let covered : take (length s - 2) s ≡ bs = take-at bs (bytes16 c) (length s - 2) (sym n) in
+    let high : getD s (length s - 2) 0 ≡ c / 256 % 256 = getD-at bs _ _ 0 (length s - 2) (sym n) in
+    let low : getD s (length s - 1) 0 ≡ c % 256 = ap (λ k. getD s k 0) m ∙ getD-append-add bs (bytes16 c) 1 0 in
+    let enough : not (ltb (length s) 2) ≡ true = ap (λ k. not (ltb k 2)) long ∙ grind (arith, tells) in
+    and-from _ _ enough (eq-eqb _ _ (ap check covered ∙ sym ((λ i. number16 (high i) (low i)) ∙ number-bytes16 c small)))
+
+-- bytes whose last two are the check of the others are these others with their check
+pub sealed-whole : (bs : List ℕ) → All (λ b. b < 256) bs → 2 ≤ length bs → isSealed bs ≡ true → sealedBytes (take (length bs - 2) bs) ≡ bs
+sealed-whole bs all l s =
+    let n = length bs - 2 in
+    let m : length bs - 1 ≡ n + 1 = omega arith in
+    let c : check (take n bs) ≡ number16 (getD bs n 0) (getD bs (n + 1) 0) = eqb-true _ _ (and-parts _ _ s .1) ∙ ap (λ k. number16 (getD bs n 0) (getD bs k 0)) m in
+    let a = all-getD (λ b. b < 256) bs n 0 (omega arith) all in
+    let b = all-getD (λ b. b < 256) bs (n + 1) 0 (omega arith) all in
+    let last : drop n bs ≡ getD bs n 0 ∷ getD bs (n + 1) 0 ∷ [] =
+    drop-more bs n 0 (omega arith) ∙ ap (λ t. getD bs n 0 ∷ t) (drop-more bs (n + 1) 0 (omega arith) ∙ ap (λ t. getD bs (n + 1) 0 ∷ t) (drop-all (n + 1 + 1) bs (omega arith))) in
+    ap (λ m. take n bs ++ bytes16 m) c ∙ ap (λ t. take n bs ++ t) (bytes-number16 _ _ a b ∙ sym last) ∙ take-append-drop n bs
