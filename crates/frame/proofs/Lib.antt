@@ -1,3 +1,4 @@
+pub mod Hears
 pub mod Middles
 pub mod Seals
 pub mod Trips

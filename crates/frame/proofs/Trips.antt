@@ -22,8 +22,9 @@ use Rattle.bytes.specs.Checks.{check}
 use Rattle.bytes.specs.Numbers.{bytes16, number16}
 use Rattle.refusal.specs.declared.Refusal.{Refusal}
 use Rattle.refusal.specs.declared.Refusal.the-variants.{FrameLength, MarkOrVersion}
-use Rattle.frame.specs.Formats.{frameBytes, headerBytes, headerOf, pastCycle, payload, sealedBytes, senderByte}
+use Rattle.frame.specs.Formats.{Wide, frameBytes, headerBytes, headerOf, pastCycle, payload, sealedBytes, senderByte}
 use Rattle.frame.specs.Reads.{carriedIn, frameIn, headerIn, isMarked, isSealed, onCycle, readFrom, refusedBy}
+use Rattle.frame.specs.Trips.{OnlyWritten}
 use Rattle.frame.specs.declared.Format.{Format}
 use Rattle.frame.specs.declared.Frame.{Frame}
 use Rattle.frame.specs.declared.Frame.the-variants.{Bare, Laden}
@@ -45,11 +46,6 @@ reads-header format w h e narrow a n =
     let header : headerIn bs ≡ h = λ i. record { tag = h .tag; sender = h .sender; ack = number-bytes16 (h .ack) a i; number = number-bytes16 (h .number) n i; width = h .width } in
     let carried : carriedIn bs ≡ e = take-at e (bytes16 (check u)) (length bs - 14) (omega arith) in
     through _ true _ FrameLength MarkOrVersion _ _ fits refl (sealed-back u) ∙ (λ i. onCycle format (frameIn (format .sender) w (header i) (carried i)))
-
--- a frame that carries an element of some width, or none
-abbrev pub Wide : ℕ → Frame (List ℕ) → Type 0
-Wide w (Bare ack) = Unit {0}
-Wide w (Laden ack number element) = length element ≡ w
 
 -- the header of a frame says that frame
 said : (side : Side) (w : ℕ) (f : Frame (List ℕ)) → Wide w f → frameIn side w (headerOf side f) (payload f) ≡ Ok f
@@ -127,3 +123,7 @@ only-written format w f bs all h =
     let five = said-from (format .sender) w (headerIn bs) (carriedIn bs) f (four .0) in
     let body = (λ i. headerBytes (five .0 i) ++ five .1 i) ∙ header-back bs all long (not-false _ (two .0)) in
     (four .1, five .2, ap sealedBytes body ∙ sealed-whole bs all (omega arith) (not-false _ (three .0)))
+
+pub only-read : (format : Format) (w : ℕ) (bs : List ℕ) (r : Result (Frame (List ℕ)) Refusal) → All (λ b. b < 256) bs → readFrom format w bs ≡ r → OnlyWritten format w bs r
+only-read format w bs (Ok f) all h = only-written format w f bs all h
+only-read format w bs (Err r) all h = tt

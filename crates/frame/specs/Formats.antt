@@ -1,5 +1,6 @@
 -- The bytes of a frame, and the cycles that its numbers are taken from.
 use Prim.Native.Nat.{ℕ, _/_, _%_}
+use mathlib.Core.Path.{_≡_}
 use mathlib.Core.Bool.{cond}
 use mathlib.Core.List.{List, [], _∷_, _++_}
 use lib.Dec.{ltb}
@@ -69,3 +70,8 @@ pastCycle format (Laden ack number element) =
 abbrev pub refusing : Option Refusal → Result (Unit {0}) Refusal
 refusing None = Ok tt
 refusing (Some r) = Err r
+
+-- a frame with an element that is so wide, or with none
+abbrev pub Wide : ℕ → Frame (List ℕ) → Type 0
+Wide width (Bare ack) = Unit {0}
+Wide width (Laden ack number element) = length element ≡ width

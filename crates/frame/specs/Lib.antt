@@ -1,3 +1,4 @@
 pub mod Formats
 pub mod Reads
+pub mod Trips
 pub mod Writes

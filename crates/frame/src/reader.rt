@@ -3,6 +3,7 @@ ghost use mathlib.Core.Path.{_≡_};
 ghost use lib.ListN.{length};
 ghost use Rattle.frame.specs.Formats.{answered};
 ghost use Rattle.frame.specs.Reads.{bareIn, frameIn, hearFrom, isSealed, ladenIn, onCycle, readFrom};
+ghost use Rattle.frame.specs.Trips.{OnlyHeard, OnlyWritten};
 use crate::Format;
 use crate::Frame;
 use crate::LONGEST;
@@ -79,7 +80,8 @@ impl Header {
 
 // The frame in the bytes heard, for a kind K of element that is not looked into; or why they are none.
 pub fn read<'a, K: Kind>(format: Format, bytes: &'a [u8]) -> Result<Frame<&'a [u8]>, Refusal>
-    ensures { λ r. ⌜ answered (λ e. now e) r ≡ readFrom format (coding .width) (now (bytes .entry)) ⌝ }
+    ensures answer { λ r. ⌜ answered (λ e. now e) r ≡ readFrom format (coding .width) (now (bytes .entry)) ⌝ }
+    ensures only { λ r. ⌜ OnlyWritten format (coding .width) (now (bytes .entry)) (answered (λ e. now e) r) ⌝ }
 {
     if bytes.len() > LONGEST {
         return Err(Refusal::FrameLength);
@@ -108,7 +110,8 @@ pub fn read<'a, K: Kind>(format: Format, bytes: &'a [u8]) -> Result<Frame<&'a [u
 
 // What the bytes heard say, with the element of the kind K; or why they are refused.
 pub fn hear<K: Kind>(format: Format, bytes: &[u8]) -> Result<Frame<K>, Refusal>
-    ensures { λ r. ⌜ r ≡ hearFrom coding format (now (bytes .entry)) ⌝ }
+    ensures answer { λ r. ⌜ r ≡ hearFrom coding format (now (bytes .entry)) ⌝ }
+    ensures only { λ r. ⌜ OnlyHeard coding format (now (bytes .entry)) r ⌝ }
 {
     match read::<K>(format, bytes)? {
         Frame::Bare { ack } => Ok(Frame::Bare { ack }),

@@ -7,8 +7,9 @@ ghost use Rattle.bytes.specs.Areas.{front};
 ghost use Rattle.std.specs.declared.option.Option.the-variants.{None};
 ghost use Rattle.std.specs.declared.result.Result.the-variants.{Ok};
 ghost use Rattle.element.specs.Kinds.{faultOf};
-ghost use Rattle.frame.specs.Formats.{frameBytes, headerBytes, sealedBytes};
-ghost use Rattle.frame.specs.Writes.{outOfRange, writeInto, writtenUnless};
+ghost use Rattle.frame.specs.Formats.{frameBytes, headerBytes, mapped, pastCycle, sealedBytes};
+ghost use Rattle.frame.specs.Trips.{HeardBack};
+ghost use Rattle.frame.specs.Writes.{bytesOf, outOfRange, unfit, writeInto, writtenUnless};
 ghost use Rattle.frame.specs.declared.Frame.the-variants.{Bare, Laden};
 use crate::Format;
 use crate::Frame;
@@ -73,13 +74,30 @@ fn write_laden<K: Kind>(sender: Side, ack: u16, number: u16, element: &K, area: 
     Ok(write_sealed(header, &bytes[0..width], area))
 }
 
+// Writes a frame, whatever its numbers.
+fn write_frame<K: Kind>(sender: Side, frame: &Frame<K>, area: &mut [u8; LONGEST]) -> Result<usize, Refusal>
+    ensures { λ r. ⌜ (r, now (area .exit)) ≡ writtenUnless (unfit coding (now (frame .entry))) (frameBytes sender (mapped (coding .written) (now (frame .entry)))) (now (area .entry)) ⌝ }
+{
+    match frame {
+        Frame::Bare { ack } => Ok(write_bare(sender, *ack, area)),
+        Frame::Laden { ack, number, element } => write_laden(sender, *ack, *number, element, area),
+    }
+}
+
+// Writes a frame whose numbers are below their cycles, so that it is heard again.
+fn write_on_cycle<K: Kind>(format: Format, frame: &Frame<K>, area: &mut [u8; LONGEST]) -> Result<usize, Refusal>
+    requires { ⌜ pastCycle format (now frame) ≡ None ⌝ }
+    ensures answer { λ r. ⌜ (r, now (area .exit)) ≡ writtenUnless (unfit coding (now (frame .entry))) (bytesOf coding format (now (frame .entry))) (now (area .entry)) ⌝ }
+    ensures heard { λ r. ⌜ HeardBack coding format (now (frame .entry)) (now (area .exit)) r ⌝ }
+{
+    write_frame(format.sender, frame, area)
+}
+
 // Writes a frame into the front of the area and answers how many bytes it has. A refusal leaves the area as it was.
 pub fn write<K: Kind>(format: Format, frame: &Frame<K>, area: &mut [u8; LONGEST]) -> Result<usize, Refusal>
-    ensures { λ r. ⌜ (r, now (area .exit)) ≡ writeInto coding format (now (frame .entry)) (now (area .entry)) ⌝ }
+    ensures answer { λ r. ⌜ (r, now (area .exit)) ≡ writeInto coding format (now (frame .entry)) (now (area .entry)) ⌝ }
+    ensures heard { λ r. ⌜ HeardBack coding format (now (frame .entry)) (now (area .exit)) r ⌝ }
 {
     frame.on_cycle(format)?;
-    match frame {
-        Frame::Bare { ack } => Ok(write_bare(format.sender, *ack, area)),
-        Frame::Laden { ack, number, element } => write_laden(format.sender, *ack, *number, element, area),
-    }
+    write_on_cycle(format, frame, area)
 }

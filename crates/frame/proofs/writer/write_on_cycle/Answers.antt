@@ -1,0 +1,12 @@
+use borrow.Author.Needs.{needs}
+use Rattle.frame.proofs.Hears.{heard-back}
+use Rattle.frame.proofs.writer.write_on_cycle.Needs as need
+
+pub returns : need.returns
+returns g c =
+    let answer = c .write-frame .ensures in
+    let laws = g .K·Kind·met in
+    record {
+      answer = answer;
+      heard = heard-back (g .K·Kind .coding) (c .args .format) (laws .exact) (laws .returned) (search needs) (search needs) (laws .narrow .1) (c .args .frame .now) _ _ _ (c .pre) answer;
+    }
