@@ -16,12 +16,17 @@ pub enum Order {
 
 impl Order {
     pub const TUNE: u8 = 1;
+
     pub const POINT: u8 = 2;
+
     pub const NOTE: u8 = 3;
 
     pub const MIN_KHZ: u32 = 400_150;
+
     pub const MAX_KHZ: u32 = 406_000;
+
     pub const MAX_BEARING: u16 = 35_999;
+
     pub const MAX_ELEVATION: u16 = 9_000;
 }
 
@@ -69,7 +74,8 @@ pub impl Kind for Order as OrderKind {
             }
             Order::Note { number } => (Self::NOTE, number.to_be_bytes()),
         };
-        area[0..Self::W].copy_from_slice(&[tag, a, b, c, d]);
+        let bytes = [tag, a, b, c, d];
+        area[0..bytes.len()].copy_from_slice(&bytes);
     }
 
     fn value(bytes: &[u8]) -> Option<Order> {

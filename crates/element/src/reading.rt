@@ -20,10 +20,15 @@ pub struct Reading {
 
 impl Reading {
     pub const MIN_HEIGHT: i32 = -5_000;
+
     pub const MAX_HEIGHT: i32 = 500_000;
+
     pub const MIN_TEMPERATURE: i16 = -12_000;
+
     pub const MAX_TEMPERATURE: i16 = 6_000;
+
     pub const MAX_HUMIDITY: u16 = 1_000;
+
     pub const MAX_PRESSURE: u16 = 11_000;
 }
 
@@ -67,7 +72,7 @@ pub impl Kind for Reading as ReadingKind {
         let [u0, u1] = self.humidity.to_be_bytes();
         let [p0, p1] = self.pressure.to_be_bytes();
         let bytes = [t0, t1, t2, t3, h0, h1, h2, h3, c0, c1, u0, u1, p0, p1];
-        area[0..Self::W].copy_from_slice(&bytes);
+        area[0..bytes.len()].copy_from_slice(&bytes);
     }
 
     fn value(bytes: &[u8]) -> Option<Reading> {

@@ -12,13 +12,14 @@ use Rattle.bytes.proofs.Fronts.{take-front}
 use Rattle.element.proofs.KindLaws.{reads-back as element-back}
 use Rattle.element.specs.Kinds.{Coding, faultOf}
 use Rattle.refusal.specs.declared.Refusal.{Refusal}
-use Rattle.frame.specs.Formats.{Wide, mapped, pastCycle}
+use Rattle.frame.specs.Formats.{Wide, frameBytes, headerOf, mapped, pastCycle}
 use Rattle.frame.specs.Reads.{hearFrom, understood, withElement}
-use Rattle.frame.specs.Trips.{HeardBack}
+use Rattle.frame.specs.Trips.{HeardBack, Sized}
 use Rattle.frame.specs.Writes.{bytesOf, outOfRange, unfit, writtenUnless}
 use Rattle.frame.specs.declared.Format.{Format}
 use Rattle.frame.specs.declared.Frame.{Frame}
 use Rattle.frame.specs.declared.Frame.the-variants.{Bare, Laden}
+use Rattle.frame.proofs.Seals.{length-sealed}
 use Rattle.frame.proofs.Trips.{reads-back}
 
 in-range : (o : Option ℕ) → outOfRange o ≡ None → o ≡ None
@@ -40,6 +41,21 @@ module _ {K : Type 0} (kind : Coding K) (format : Format) (exact : (e : K) → l
   understands (Laden ack number e) h =
       let fine = in-range (faultOf kind e) h in
       ap (withElement kind ack number) (element-back kind e fine (returned e fine))
+
+  -- how many bytes a frame has
+  long : (f : Frame K) → kind .width ≤ 18 → (14 ≤ length (bytesOf kind format f)) × (length (bytesOf kind format f) ≤ 32)
+  unfolding frameBytes
+  long (Bare ack) narrow = (omega arith, omega arith)
+  long (Laden ack number e) narrow =
+      let n = length-sealed (headerOf (format .sender) (Laden ack number (kind .written e))) (kind .written e) in
+      (omega (arith, n, exact e), omega (arith, n, exact e))
+
+  by-size : (o : Option Refusal) (f : Frame K) (r : Result ℕ Refusal) (old area : List ℕ) → kind .width ≤ 18 → (r, area) ≡ writtenUnless o (bytesOf kind format f) old → Sized r
+  by-size None f r old area narrow wrote = subst Sized (sym (ap (λ t. t .0) wrote)) (long f narrow)
+  by-size (Some e) f r old area narrow wrote = subst Sized (sym (ap (λ t. t .0) wrote)) tt
+
+  pub sized : (f : Frame K) (r : Result ℕ Refusal) (old area : List ℕ) → kind .width ≤ 18 → (r, area) ≡ writtenUnless (unfit kind f) (bytesOf kind format f) old → Sized r
+  sized f r old area narrow wrote = by-size (unfit kind f) f r old area narrow wrote
 
   module _ (acks : format .acks ≤ 65536) (numbers : format .numbers ≤ 65536) (narrow : kind .width ≤ 18) where
     -- a frame that may be written is heard from its bytes

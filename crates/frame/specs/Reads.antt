@@ -10,7 +10,7 @@ use Rattle.std.specs.declared.result.Result.{Result}
 use Rattle.std.specs.declared.result.Result.the-variants.{Ok, Err}
 use Rattle.bytes.specs.Checks.{check}
 use Rattle.bytes.specs.Numbers.{number16}
-use Rattle.element.specs.Kinds.{Coding} 
+use Rattle.element.specs.Kinds.{Coding}
 use Rattle.element.specs.Kinds.{readFrom as readElement}
 use Rattle.refusal.specs.declared.Refusal.{Refusal}
 use Rattle.refusal.specs.declared.Refusal.the-variants.{FrameLength, MarkOrVersion, WrongCheck, WrongField, NoElement}

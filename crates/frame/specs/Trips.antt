@@ -1,5 +1,5 @@
 -- How writing and reading belong together: each undoes the other, so that just the bytes that are written are accepted.
-use Prim.Native.Nat.{ℕ}
+use Prim.Native.Nat.{ℕ, _≤_}
 use mathlib.Core.List.{List}
 use mathlib.Core.Path.{_≡_}
 use lib.ListN.{take}
@@ -18,6 +18,11 @@ use Rattle.frame.specs.declared.Frame.{Frame}
 abbrev pub OnlyWritten : Format → ℕ → List ℕ → Result (Frame (List ℕ)) Refusal → Type 0
 OnlyWritten format width bs (Ok f) = (pastCycle format f ≡ None) × Wide width f × (frameBytes (format .sender) f ≡ bs)
 OnlyWritten format width bs (Err r) = Unit {0}
+
+-- a frame that was written has 14 to 32 bytes
+abbrev pub Sized : Result ℕ Refusal → Type 0
+Sized (Ok n) = (14 ≤ n) × (n ≤ 32)
+Sized (Err r) = Unit {0}
 
 module _ {K : Type 0} (kind : Coding K) (format : Format) where
   -- bytes that are heard as a frame are what writing that frame gives

@@ -39,6 +39,19 @@ impl Header {
     {
         let [a0, a1] = self.ack.to_be_bytes();
         let [n0, n1] = self.number.to_be_bytes();
-        [0x4D, 0x48, 0x4C, 0, 1, self.tag, self.sender, a0, a1, n0, n1, self.width]
+        [
+            0x4D,
+            0x48,
+            0x4C,
+            0,
+            1,
+            self.tag,
+            self.sender,
+            a0,
+            a1,
+            n0,
+            n1,
+            self.width,
+        ]
     }
 }

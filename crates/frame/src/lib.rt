@@ -44,7 +44,11 @@ impl<E> Frame<E> {
     {
         let (ack, number) = match self {
             Frame::Bare { ack } => (*ack, None),
-            Frame::Laden { ack, number, element: _ } => (*ack, Some(*number)),
+            Frame::Laden {
+                ack,
+                number,
+                element: _,
+            } => (*ack, Some(*number)),
         };
         if ack >= format.acks {
             return Err(Refusal::NumberPastCycle { place: 7 });

@@ -48,11 +48,20 @@ impl Header {
         if self.width as usize != width || element.len() != width {
             return Err(Refusal::WrongField { place: 11 });
         }
-        Ok(Frame::Laden { ack: self.ack, number: self.number, element })
+        Ok(Frame::Laden {
+            ack: self.ack,
+            number: self.number,
+            element,
+        })
     }
 
     // The frame that the header says, from a sender, with the bytes between it and the check.
-    fn said<'a>(self, sender: Side, width: usize, element: &'a [u8]) -> Result<Frame<&'a [u8]>, Refusal>
+    fn said<'a>(
+        self,
+        sender: Side,
+        width: usize,
+        element: &'a [u8],
+    ) -> Result<Frame<&'a [u8]>, Refusal>
         ensures { λ r. ⌜ answered (λ e. now e) r ≡ frameIn sender width self (now (element .entry)) ⌝ }
     {
         if self.tag != BARE && self.tag != LADEN {
@@ -69,7 +78,12 @@ impl Header {
     }
 
     // The same, and its numbers are below their cycles.
-    fn frame<'a>(self, format: Format, width: usize, element: &'a [u8]) -> Result<Frame<&'a [u8]>, Refusal>
+    fn frame<'a>(
+        self,
+        format: Format,
+        width: usize,
+        element: &'a [u8],
+    ) -> Result<Frame<&'a [u8]>, Refusal>
         ensures { λ r. ⌜ answered (λ e. now e) r ≡ onCycle format (frameIn (format .sender) width self (now (element .entry))) ⌝ }
     {
         let frame = self.said(format.sender, width, element)?;
@@ -86,7 +100,22 @@ pub fn read<'a, K: Kind>(format: Format, bytes: &'a [u8]) -> Result<Frame<&'a [u
     if bytes.len() > LONGEST {
         return Err(Refusal::FrameLength);
     }
-    let [m0, m1, m2, v0, v1, tag, sender, a0, a1, n0, n1, width, rest @ ..] = bytes else {
+    let [
+        m0,
+        m1,
+        m2,
+        v0,
+        v1,
+        tag,
+        sender,
+        a0,
+        a1,
+        n0,
+        n1,
+        width,
+        rest @ ..,
+    ] = bytes
+    else {
         return Err(Refusal::FrameLength);
     };
     let [element @ .., _, _] = rest else {
@@ -96,7 +125,9 @@ pub fn read<'a, K: Kind>(format: Format, bytes: &'a [u8]) -> Result<Frame<&'a [u
         return Err(Refusal::MarkOrVersion);
     }
     if !sealed(bytes) {
-        return Err(Refusal::WrongCheck { place: bytes.len() - 2 });
+        return Err(Refusal::WrongCheck {
+            place: bytes.len() - 2,
+        });
     }
     let header = Header {
         tag: *tag,
@@ -115,8 +146,16 @@ pub fn hear<K: Kind>(format: Format, bytes: &[u8]) -> Result<Frame<K>, Refusal>
 {
     match read::<K>(format, bytes)? {
         Frame::Bare { ack } => Ok(Frame::Bare { ack }),
-        Frame::Laden { ack, number, element } => match K::read(element) {
-            Ok(element) => Ok(Frame::Laden { ack, number, element }),
+        Frame::Laden {
+            ack,
+            number,
+            element,
+        } => match K::read(element) {
+            Ok(element) => Ok(Frame::Laden {
+                ack,
+                number,
+                element,
+            }),
             Err(at) => Err(Refusal::NoElement { place: HEADER + at }),
         },
     }

@@ -88,7 +88,7 @@ impl Refusal {
     }
 
     // The cause, in words for people.
-    pub fn reason(self) -> &'static str
+    fn reason(self) -> &'static str
         ensures { λ r. ⌜ now r ≡ reasonOf self ⌝ }
     {
         match self {
