@@ -1,3 +1,4 @@
+pub mod Changes
 pub mod Fronts
 pub mod Heads
 pub mod Numbers

@@ -1,3 +1,4 @@
+pub mod Damages
 pub mod Hears
 pub mod Middles
 pub mod Seals

@@ -48,12 +48,18 @@ sealed-back bs =
     let enough : not (ltb (length s) 2) ≡ true = ap (λ k. not (ltb k 2)) long ∙ grind (arith, tells) in
     and-from _ _ enough (eq-eqb _ _ (ap check covered ∙ sym ((λ i. number16 (high i) (low i)) ∙ number-bytes16 c small)))
 
+-- the check that sealed bytes end with
+pub sealed-check : (n : ℕ) (bs : List ℕ) → length bs ≡ n + 2 → isSealed bs ≡ true → check (take n bs) ≡ number16 (getD bs n 0) (getD bs (n + 1) 0)
+sealed-check n bs l s =
+    let k : length bs - 2 ≡ n = omega arith in
+    let m : length bs - 1 ≡ n + 1 = omega arith in
+    ap (λ k. check (take k bs)) (sym k) ∙ eqb-true _ _ (and-parts _ _ s .1) ∙ (λ i. number16 (getD bs (k i) 0) (getD bs (m i) 0))
+
 -- bytes whose last two are the check of the others are these others with their check
 pub sealed-whole : (bs : List ℕ) → All (λ b. b < 256) bs → 2 ≤ length bs → isSealed bs ≡ true → sealedBytes (take (length bs - 2) bs) ≡ bs
 sealed-whole bs all l s =
     let n = length bs - 2 in
-    let m : length bs - 1 ≡ n + 1 = omega arith in
-    let c : check (take n bs) ≡ number16 (getD bs n 0) (getD bs (n + 1) 0) = eqb-true _ _ (and-parts _ _ s .1) ∙ ap (λ k. number16 (getD bs n 0) (getD bs k 0)) m in
+    let c = sealed-check n bs (omega arith) s in
     let a = all-getD (λ b. b < 256) bs n 0 (omega arith) all in
     let b = all-getD (λ b. b < 256) bs (n + 1) 0 (omega arith) all in
     let last : drop n bs ≡ getD bs n 0 ∷ getD bs (n + 1) 0 ∷ [] =

@@ -111,18 +111,23 @@ header-back bs all l m =
     let body = ap (λ m. take m bs) k ∙ take-heads 0 12 (length bs - 14) bs (omega arith) in
     cc
 
--- whatever is accepted is what is written, and nothing else is
-pub only-written : (format : Format) (w : ℕ) (f : Frame (List ℕ)) (bs : List ℕ) → All (λ b. b < 256) bs → readFrom format w bs ≡ Ok f → (pastCycle format f ≡ None) × Wide w f × (frameBytes (format .sender) f ≡ bs)
-unfolding frameBytes
-only-written format w f bs all h =
+-- what an accepted frame passed
+pub accepted : (format : Format) (w : ℕ) (f : Frame (List ℕ)) (bs : List ℕ) → readFrom format w bs ≡ Ok f → (14 ≤ length bs) × (isMarked bs ≡ true) × (isSealed bs ≡ true) × (onCycle format (frameIn (format .sender) w (headerIn bs) (carriedIn bs)) ≡ Ok f)
+accepted format w f bs h =
     let one = passed (ltb (length bs) 14 || ltb 32 (length bs)) _ _ f h in
     let two = passed (not (isMarked bs)) _ _ f (one .1) in
     let three = passed (not (isSealed bs)) _ _ f (two .1) in
-    let long : 14 ≤ length bs = ltb-false _ _ (or-parts _ _ (one .0) .0) in
-    let four = cycled-from format (frameIn (format .sender) w (headerIn bs) (carriedIn bs)) f (three .1) in
-    let five = said-from (format .sender) w (headerIn bs) (carriedIn bs) f (four .0) in
-    let body = (λ i. headerBytes (five .0 i) ++ five .1 i) ∙ header-back bs all long (not-false _ (two .0)) in
-    (four .1, five .2, ap sealedBytes body ∙ sealed-whole bs all (omega arith) (not-false _ (three .0)))
+    (ltb-false _ _ (or-parts _ _ (one .0) .0), not-false _ (two .0), not-false _ (three .0), three .1)
+
+-- whatever is accepted is what is written, and nothing else is
+only-written : (format : Format) (w : ℕ) (f : Frame (List ℕ)) (bs : List ℕ) → All (λ b. b < 256) bs → readFrom format w bs ≡ Ok f → (pastCycle format f ≡ None) × Wide w f × (frameBytes (format .sender) f ≡ bs)
+unfolding frameBytes
+only-written format w f bs all h =
+    let a = accepted format w f bs h in
+    let frame = cycled-from format (frameIn (format .sender) w (headerIn bs) (carriedIn bs)) f (a .3) in
+    let header = said-from (format .sender) w (headerIn bs) (carriedIn bs) f (frame .0) in
+    let body = (λ i. headerBytes (header .0 i) ++ header .1 i) ∙ header-back bs all (a .0) (a .1) in
+    (frame .1, header .2, ap sealedBytes body ∙ sealed-whole bs all (omega arith) (a .2))
 
 pub only-read : (format : Format) (w : ℕ) (bs : List ℕ) (r : Result (Frame (List ℕ)) Refusal) → All (λ b. b < 256) bs → readFrom format w bs ≡ r → OnlyWritten format w bs r
 only-read format w bs (Ok f) all h = only-written format w f bs all h

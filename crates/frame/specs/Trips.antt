@@ -1,15 +1,17 @@
 -- How writing and reading belong together: each undoes the other, so that just the bytes that are written are accepted.
-use Prim.Native.Nat.{ℕ, _≤_}
+use Prim.Native.Nat.{ℕ, _<_, _≤_}
 use mathlib.Core.List.{List}
 use mathlib.Core.Path.{_≡_}
-use lib.ListN.{take}
+use mathlib.Core.Bool.{false}
+use lib.ListN.{length, getD, set, take}
+use Rattle.std.specs.Results.{isOk}
 use Rattle.std.specs.declared.option.Option.the-variants.{None}
 use Rattle.std.specs.declared.result.Result.{Result}
 use Rattle.std.specs.declared.result.Result.the-variants.{Ok, Err}
 use Rattle.element.specs.Kinds.{Coding}
 use Rattle.refusal.specs.declared.Refusal.{Refusal}
 use Rattle.frame.specs.Formats.{Wide, frameBytes, pastCycle}
-use Rattle.frame.specs.Reads.{hearFrom}
+use Rattle.frame.specs.Reads.{hearFrom, readFrom}
 use Rattle.frame.specs.Writes.{bytesOf, refusalOf}
 use Rattle.frame.specs.declared.Format.{Format}
 use Rattle.frame.specs.declared.Frame.{Frame}
@@ -18,6 +20,10 @@ use Rattle.frame.specs.declared.Frame.{Frame}
 abbrev pub OnlyWritten : Format → ℕ → List ℕ → Result (Frame (List ℕ)) Refusal → Type 0
 OnlyWritten format width bs (Ok f) = (pastCycle format f ≡ None) × Wide width f × (frameBytes (format .sender) f ≡ bs)
 OnlyWritten format width bs (Err r) = Unit {0}
+
+-- with any one byte changed to another, the bytes are not read as a frame
+pub record OneByteSafe (format : Format) (width : ℕ) (bs : List ℕ) : Type 0 where
+  pub refused : (i byte : ℕ) → i < length bs → byte < 256 → (byte ≡ getD bs i 0 → ⊥) → isOk (readFrom format width (set bs i byte)) ≡ false
 
 -- a frame that was written has 14 to 32 bytes
 abbrev pub Sized : Result ℕ Refusal → Type 0

@@ -1,9 +1,10 @@
 // Reading frames.
 ghost use mathlib.Core.Path.{_≡_};
-ghost use lib.ListN.{length};
+ghost use mathlib.Core.Bool.{true};
+ghost use Rattle.std.specs.Results.{isOk};
 ghost use Rattle.frame.specs.Formats.{answered};
 ghost use Rattle.frame.specs.Reads.{bareIn, frameIn, hearFrom, isSealed, ladenIn, onCycle, readFrom};
-ghost use Rattle.frame.specs.Trips.{OnlyHeard, OnlyWritten};
+ghost use Rattle.frame.specs.Trips.{OneByteSafe, OnlyHeard, OnlyWritten};
 use crate::Format;
 use crate::Frame;
 use crate::LONGEST;
@@ -96,6 +97,7 @@ impl Header {
 pub fn read<'a, K: Kind>(format: Format, bytes: &'a [u8]) -> Result<Frame<&'a [u8]>, Refusal>
     ensures answer { λ r. ⌜ answered (λ e. now e) r ≡ readFrom format (coding .width) (now (bytes .entry)) ⌝ }
     ensures only { λ r. ⌜ OnlyWritten format (coding .width) (now (bytes .entry)) (answered (λ e. now e) r) ⌝ }
+    ensures safe { λ r. ⌜ (isOk r ≡ true → OneByteSafe format (coding .width) (now (bytes .entry))) ⌝ }
 {
     if bytes.len() > LONGEST {
         return Err(Refusal::FrameLength);
@@ -143,6 +145,7 @@ pub fn read<'a, K: Kind>(format: Format, bytes: &'a [u8]) -> Result<Frame<&'a [u
 pub fn hear<K: Kind>(format: Format, bytes: &[u8]) -> Result<Frame<K>, Refusal>
     ensures answer { λ r. ⌜ r ≡ hearFrom coding format (now (bytes .entry)) ⌝ }
     ensures only { λ r. ⌜ OnlyHeard coding format (now (bytes .entry)) r ⌝ }
+    ensures safe { λ r. ⌜ (isOk r ≡ true → OneByteSafe format (coding .width) (now (bytes .entry))) ⌝ }
 {
     match read::<K>(format, bytes)? {
         Frame::Bare { ack } => Ok(Frame::Bare { ack }),
