@@ -5,8 +5,9 @@ use mathlib.Core.List.{List, [], _∷_}
 use Rattle.std.specs.declared.option.Option.{Option}
 use Rattle.std.specs.declared.option.Option.the-variants.{Some, None}
 use Rattle.std.specs.declared.result.Result.{Result}
-use Rattle.std.specs.declared.result.Result.the-variants.{Ok, Err}
-use Rattle.bytes.specs.Areas.{front}
+use Rattle.std.specs.declared.result.Result.the-variants.{Err}
+use Rattle.bytes.specs.Areas.{writtenUnless}
+use Rattle.refusal.specs.Refusals.{unless}
 use Rattle.refusal.specs.declared.Refusal.{Refusal}
 use Rattle.refusal.specs.declared.Refusal.the-variants.{FieldOutOfRange}
 
@@ -31,32 +32,29 @@ pub record Coding (K : Type 0) : Type 0 where
   pub written : K → List ℕ
   pub value : List ℕ → Option K
 
--- what is said of a value by its first fault: the value itself where it has none
-abbrev pub unless : {A E : Type 0} → (ℕ → E) → A → Option ℕ → Result A E
-unless refused x None = Ok x
-unless refused x (Some at) = Err (refused at)
+-- the refusal of a value given by itself, by the offset of its first field out of range
+abbrev pub outOfRange : Option ℕ → Option Refusal
+outOfRange None = None
+outOfRange (Some at) = Some FieldOutOfRange
 
 module _ {K : Type 0} (kind : Coding K) where
   -- the offset of a value's first field out of range; a value that has none is an element
   abbrev pub faultOf : K → Option ℕ
   faultOf e = firstFault (kind .fields e)
 
-  -- a value made into an element, or the refusal of a field out of range
+  -- a value made into an element
   abbrev pub madeFrom : K → Result K Refusal
-  madeFrom e = unless (λ _. FieldOutOfRange) e (faultOf e)
+  madeFrom e = unless e (outOfRange (faultOf e))
 
-  -- an element written into the front of an area, and its width; a refusal leaves the area as it was
-  abbrev pub written-unless : Option ℕ → K → List ℕ → Result ℕ Refusal × List ℕ
-  written-unless None e area = (Ok (kind .width), front (kind .written e) area)
-  written-unless (Some at) e area = (Err FieldOutOfRange, area)
+  -- an element written into the front of an area
+  abbrev pub elementInto : K → List ℕ → Result ℕ Refusal × List ℕ
+  elementInto e area = writtenUnless (outOfRange (faultOf e)) (kind .written e) area
 
-  abbrev pub writeInto : K → List ℕ → Result ℕ Refusal × List ℕ
-  writeInto e area = written-unless (faultOf e) e area
+  -- a value that was read, unless it has a field at fault; bytes that hold no value at all are at fault from offset 0
+  abbrev pub inRange : Option K → Result K ℕ
+  inRange None = Err 0
+  inRange (Some e) = unless e (faultOf e)
 
-  -- the element that bytes hold, or the offset of the first field at fault: 0 where they hold no value at all
-  abbrev pub checked : Option K → Result K ℕ
-  checked None = Err 0
-  checked (Some e) = unless (λ at. at) e (faultOf e)
-
-  abbrev pub readFrom : List ℕ → Result K ℕ
-  readFrom bs = checked (kind .value bs)
+  -- the element that bytes hold, or the offset of the first field at fault
+  abbrev pub elementFrom : List ℕ → Result K ℕ
+  elementFrom bs = inRange (kind .value bs)

@@ -7,7 +7,7 @@ ghost use Rattle.std.specs.declared.option.Option.the-variants.{Some, None};
 ghost use Rattle.std.specs.declared.result.Result.the-variants.{Ok, Err};
 ghost use Rattle.std.specs.shelf.Lists.{All};
 ghost use Rattle.bytes.specs.Areas.{front};
-ghost use Rattle.element.specs.Kinds.{Coding, faultOf, madeFrom, readFrom, writeInto};
+ghost use Rattle.element.specs.Kinds.{Coding, elementFrom, elementInto, faultOf, madeFrom};
 use refusal::Refusal;
 
 pub mod order;
@@ -78,8 +78,8 @@ pub trait Kind: Copy {
 
     // Writes the element into the front of the area and answers its width; refused where a field is out of range.
     fn write(&self, area: &mut [u8; WIDEST]) -> Result<usize, Refusal>
-        ensures answer { λ r. ⌜ (r, now (area .exit)) ≡ writeInto coding (now (self .entry)) (now (area .entry)) ⌝ }
-        ensures back { λ r. ⌜ elim r [ Ok n ↦ readFrom coding (take n (now (area .exit))) ≡ Ok (now (self .entry)) | Err _ ↦ Unit {0} ] ⌝ }
+        ensures answer { λ r. ⌜ (r, now (area .exit)) ≡ elementInto coding (now (self .entry)) (now (area .entry)) ⌝ }
+        ensures back { λ r. ⌜ elim r [ Ok n ↦ elementFrom coding (take n (now (area .exit))) ≡ Ok (now (self .entry)) | Err _ ↦ Unit {0} ] ⌝ }
     {
         if let Some(_) = self.fault() {
             return Err(Refusal::FieldOutOfRange);
@@ -90,7 +90,7 @@ pub trait Kind: Copy {
 
     // The element that bytes hold, or the offset of the first field at fault.
     fn read(bytes: &[u8]) -> Result<Self, usize>
-        ensures answer { λ r. ⌜ r ≡ readFrom coding (now (bytes .entry)) ⌝ }
+        ensures answer { λ r. ⌜ r ≡ elementFrom coding (now (bytes .entry)) ⌝ }
         ensures only { λ r. ⌜ elim r [ Ok e ↦ (faultOf coding e ≡ None) × (coding .written e ≡ now (bytes .entry)) | Err at ↦ at < coding .width ] ⌝ }
     {
         let Some(element) = Self::value(bytes) else {

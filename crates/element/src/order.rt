@@ -15,18 +15,25 @@ pub enum Order {
 }
 
 impl Order {
+    // The tag of an order to tune.
     pub const TUNE: u8 = 1;
 
+    // The tag of an order to point.
     pub const POINT: u8 = 2;
 
+    // The tag of a launch note.
     pub const NOTE: u8 = 3;
 
+    // The lowest frequency, in kHz.
     pub const MIN_KHZ: u32 = 400_150;
 
+    // The highest frequency, in kHz.
     pub const MAX_KHZ: u32 = 406_000;
 
+    // The largest bearing, in hundredths of a degree; the smallest is 0.
     pub const MAX_BEARING: u16 = 35_999;
 
+    // The largest elevation, in hundredths of a degree; the smallest is 0.
     pub const MAX_ELEVATION: u16 = 9_000;
 }
 

@@ -19,16 +19,22 @@ pub struct Reading {
 }
 
 impl Reading {
+    // The lowest height, in decimetres.
     pub const MIN_HEIGHT: i32 = -5_000;
 
+    // The greatest height, in decimetres.
     pub const MAX_HEIGHT: i32 = 500_000;
 
+    // The lowest temperature, in hundredths of a degree Celsius.
     pub const MIN_TEMPERATURE: i16 = -12_000;
 
+    // The highest temperature, in hundredths of a degree Celsius.
     pub const MAX_TEMPERATURE: i16 = 6_000;
 
+    // The highest humidity, in tenths of a percent; the lowest is 0.
     pub const MAX_HUMIDITY: u16 = 1_000;
 
+    // The highest pressure, in tenths of a hectopascal; the lowest is 0.
     pub const MAX_PRESSURE: u16 = 11_000;
 }
 

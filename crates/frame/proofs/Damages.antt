@@ -2,8 +2,8 @@
 use mathlib.Core.Path.{_≡_, refl, sym, ap, _∙_}
 use mathlib.Core.Bool.{Bool, true, false}
 use mathlib.Core.List.{List}
-use mathlib.Core.Logic.{_⊎_, inl, inr, _≢_}
-use Prim.Native.Nat.{ℕ, _+_, _-_, _*_, _<_, _≤_}
+use mathlib.Core.Logic.{inl, inr, _≢_}
+use Prim.Native.Nat.{ℕ, _+_, _-_, _<_, _≤_}
 use native.Mathlib.Omega.{arith}
 use lib.ListN.{length, take, getD, set, length-set, length-take}
 use lib.Seq.{getD-set-same, getD-set-other, getD-take, take-set-le, take-set-lt}
@@ -84,7 +84,7 @@ one-byte-safe format w f bs all h =
     let a = accepted format w f bs h in
     record {
       refused = λ i v here small differ.
-        no-frame (readFrom format w (set bs i v)) (λ g r. unsealed bs (length bs - 2) i v all (omega arith) here small differ (a .2) (accepted format w g (set bs i v) r .2));
+          no-frame (readFrom format w (set bs i v)) (λ g r. unsealed bs (length bs - 2) i v all (omega arith) here small differ (a .2) (accepted format w g (set bs i v) r .2));
     }
 
 -- the same of what the frame's bytes are a part of

@@ -7,24 +7,21 @@ use lib.ListN.{length, take}
 use Rattle.std.specs.declared.option.Option.{Option}
 use Rattle.std.specs.declared.option.Option.the-variants.{Some, None}
 use Rattle.std.specs.declared.result.Result.{Result}
-use Rattle.std.specs.declared.result.Result.the-variants.{Ok, Err}
+use Rattle.std.specs.declared.result.Result.the-variants.{Ok}
 use Rattle.bytes.proofs.Fronts.{take-front}
-use Rattle.element.proofs.KindLaws.{reads-back as element-back}
+use Rattle.bytes.specs.Areas.{writtenUnless}
+use Rattle.element.proofs.KindLaws.{in-range, reads-back as element-back}
 use Rattle.element.specs.Kinds.{Coding, faultOf}
 use Rattle.refusal.specs.declared.Refusal.{Refusal}
 use Rattle.frame.specs.Formats.{Wide, frameBytes, headerOf, mapped, pastCycle}
 use Rattle.frame.specs.Reads.{hearFrom, understood, withElement}
 use Rattle.frame.specs.Trips.{HeardBack, Sized}
-use Rattle.frame.specs.Writes.{bytesOf, outOfRange, unfit, writtenUnless}
+use Rattle.frame.specs.Writes.{bytesOf, unfit}
 use Rattle.frame.specs.declared.Format.{Format}
 use Rattle.frame.specs.declared.Frame.{Frame}
 use Rattle.frame.specs.declared.Frame.the-variants.{Bare, Laden}
 use Rattle.frame.proofs.Seals.{length-sealed}
 use Rattle.frame.proofs.Trips.{reads-back}
-
-in-range : (o : Option ℕ) → outOfRange o ≡ None → o ≡ None
-in-range None h = refl
-in-range (Some at) h = let z : _≡_ {A = ℕ} 0 1 = cc in absurd (omega arith)
 
 module _ {K : Type 0} (kind : Coding K) (format : Format) (exact : (e : K) → length (kind .written e) ≡ kind .width) (returned : (e : K) → faultOf kind e ≡ None → kind .value (kind .written e) ≡ Some e) where
   wide : (f : Frame K) → Wide (kind .width) (mapped (kind .written) f)

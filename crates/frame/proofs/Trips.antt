@@ -1,29 +1,28 @@
 -- Reading what was written, and writing what was read.
 use mathlib.Core.Path.{_≡_, refl, sym, ap, _∙_}
 use mathlib.Core.Bool.{Bool, true, false, cond, not, _||_}
-use mathlib.Core.List.{List, [], _∷_, _++_}
-use mathlib.Core.Logic.{_⊎_, inl, inr}
-use Prim.Native.Nat.{ℕ, _+_, _-_, _/_, _%_, _<_, _≤_}
+use mathlib.Core.List.{List, _++_}
+use Prim.Native.Nat.{ℕ, _+_, _-_, _<_, _≤_}
 use native.Mathlib.Omega.{arith}
-use lib.Dec.{ltb, eqb}
-use lib.ListN.{length, take, drop, getD, length-append, length-take, length-drop}
+use lib.Dec.{ltb}
+use lib.ListN.{length, take, getD}
 use Rattle.std.specs.declared.option.Option.{Option}
 use Rattle.std.specs.declared.option.Option.the-variants.{Some, None}
 use Rattle.std.specs.declared.result.Result.{Result}
 use Rattle.std.specs.declared.result.Result.the-variants.{Ok, Err}
 use Rattle.std.specs.shelf.Lists.{All}
-use Rattle.std.proofs.shelf.Elements.{all-getD}
 use Rattle.std.proofs.shelf.Lists.{nil-from-length, take-at}
 use Rattle.std.proofs.shelf.Tests.{or-parts, ltb-false, not-false}
 use Rattle.std.proofs.shelf.Ways.{tells}
-use Rattle.bytes.proofs.Heads.{heads, take-heads}
+use Rattle.bytes.proofs.Heads.{take-heads}
 use Rattle.bytes.proofs.Numbers.{part16}
 use Rattle.bytes.specs.Checks.{check}
-use Rattle.bytes.specs.Numbers.{bytes16, number16}
+use Rattle.bytes.specs.Numbers.{bytes16}
+use Rattle.refusal.specs.Refusals.{unless}
 use Rattle.refusal.specs.declared.Refusal.{Refusal}
 use Rattle.refusal.specs.declared.Refusal.the-variants.{FrameLength, MarkOrVersion}
 use Rattle.frame.specs.Formats.{Wide, frameBytes, headerBytes, headerOf, pastCycle, payload, sealedBytes, senderByte}
-use Rattle.frame.specs.Reads.{carriedIn, frameIn, headerIn, isMarked, isSealed, onCycle, readFrom, refusedBy}
+use Rattle.frame.specs.Reads.{carriedIn, frameIn, headerIn, isMarked, isSealed, onCycle, readFrom}
 use Rattle.frame.specs.Trips.{OnlyWritten}
 use Rattle.frame.specs.declared.Format.{Format}
 use Rattle.frame.specs.declared.Frame.{Frame}
@@ -66,13 +65,13 @@ pub reads-back : (format : Format) (w : ℕ) (f : Frame (List ℕ)) → format .
 unfolding frameBytes
 reads-back format w f a n h wide cycled =
     let s = small format f a n cycled in
-    reads-header format w (headerOf (format .sender) f) (payload f) (narrow w f h wide) (s .0) (s .1) ∙ ap (onCycle format) (said (format .sender) w f wide) ∙ ap (refusedBy f) cycled
+    reads-header format w (headerOf (format .sender) f) (payload f) (narrow w f h wide) (s .0) (s .1) ∙ ap (onCycle format) (said (format .sender) w f wide) ∙ ap (unless f) cycled
 
 -- a test that did not refuse
 passed : {A : Type 0} (b : Bool) (x : Refusal) (y : Result A Refusal) (f : A) → cond b (Err x) y ≡ Ok f → (b ≡ false) × (y ≡ Ok f)
 passed b x y f h = grind arith
 
-by-refusal : {A : Type 0} (o : Option Refusal) (x y : A) → refusedBy x o ≡ Ok y → (x ≡ y) × (o ≡ None)
+by-refusal : {A : Type 0} (o : Option Refusal) (x y : A) → unless x o ≡ Ok y → (x ≡ y) × (o ≡ None)
 by-refusal None x y h = (cc, refl)
 by-refusal (Some r) x y h = let z : _≡_ {A = ℕ} 0 1 = cc in absurd (omega arith)
 

@@ -66,11 +66,6 @@ pastCycle format (Bare ack) = cond (ltb ack (format .acks)) None (Some (NumberPa
 pastCycle format (Laden ack number element) =
     cond (ltb ack (format .acks)) (cond (ltb number (format .numbers)) None (Some (NumberPastCycle 9))) (Some (NumberPastCycle 7))
 
--- nothing more to say, or the refusal
-abbrev pub refusing : Option Refusal → Result (Unit {0}) Refusal
-refusing None = Ok tt
-refusing (Some r) = Err r
-
 -- a frame with an element that is so wide, or with none
 abbrev pub Wide : ℕ → Frame (List ℕ) → Type 0
 Wide width (Bare ack) = Unit {0}

@@ -4,14 +4,12 @@ use mathlib.Core.Bool.{Bool, cond, not, _&&_, _||_}
 use mathlib.Core.List.{List}
 use lib.Dec.{ltb, eqb}
 use lib.ListN.{length, getD, take, drop}
-use Rattle.std.specs.declared.option.Option.{Option}
-use Rattle.std.specs.declared.option.Option.the-variants.{Some, None}
 use Rattle.std.specs.declared.result.Result.{Result}
 use Rattle.std.specs.declared.result.Result.the-variants.{Ok, Err}
 use Rattle.bytes.specs.Checks.{check}
 use Rattle.bytes.specs.Numbers.{number16}
-use Rattle.element.specs.Kinds.{Coding}
-use Rattle.element.specs.Kinds.{readFrom as readElement}
+use Rattle.element.specs.Kinds.{Coding, elementFrom}
+use Rattle.refusal.specs.Refusals.{unless}
 use Rattle.refusal.specs.declared.Refusal.{Refusal}
 use Rattle.refusal.specs.declared.Refusal.the-variants.{FrameLength, MarkOrVersion, WrongCheck, WrongField, NoElement}
 use Rattle.frame.specs.Formats.{pastCycle, senderByte}
@@ -63,14 +61,9 @@ frameIn sender width h carried =
     (cond (not (eqb (h .sender) (senderByte sender))) (Err (WrongField 6))
     (cond (eqb (h .tag) 1) (bareIn h carried) (ladenIn width h carried)))
 
--- an answer, unless there is a refusal
-abbrev pub refusedBy : {A : Type 0} → A → Option Refusal → Result A Refusal
-refusedBy x None = Ok x
-refusedBy x (Some r) = Err r
-
 -- a frame, unless one of its numbers is not below its cycle
 abbrev pub onCycle : Format → Result (Frame (List ℕ)) Refusal → Result (Frame (List ℕ)) Refusal
-onCycle format (Ok f) = refusedBy f (pastCycle format f)
+onCycle format (Ok f) = unless f (pastCycle format f)
 onCycle format (Err r) = Err r
 
 -- the frame in some bytes, for a kind that is so wide
@@ -89,7 +82,7 @@ module _ {K : Type 0} (kind : Coding K) where
 
   abbrev pub understood : Result (Frame (List ℕ)) Refusal → Result (Frame K) Refusal
   understood (Ok (Bare ack)) = Ok (Bare ack)
-  understood (Ok (Laden ack number bs)) = withElement ack number (readElement kind bs)
+  understood (Ok (Laden ack number bs)) = withElement ack number (elementFrom kind bs)
   understood (Err r) = Err r
 
   -- what bytes say to who expects this kind

@@ -2,7 +2,8 @@
 //
 // A frame says what its sender has heard so far, by an acknowledgement, and may carry one element with its number.
 ghost use mathlib.Core.Path.{_≡_};
-ghost use Rattle.frame.specs.Formats.{pastCycle, refusing};
+ghost use Rattle.frame.specs.Formats.{pastCycle};
+ghost use Rattle.refusal.specs.Refusals.{unless};
 use refusal::Refusal;
 
 mod header;
@@ -20,12 +21,14 @@ pub enum Side {
     Hut,
 }
 
-// What a frame is held against: the side that sends it, the cycle of its acknowledgement and the cycle of its number. The
-// numbers of a cycle are those below it.
+// What a frame is held against.
 #[derive(Clone, Copy, PartialEq, Eq, Debug)]
 pub struct Format {
+    // The side that sends it.
     pub sender: Side,
+    // The cycle of its acknowledgement, which is below this.
     pub acks: u16,
+    // The cycle of its number, which is below this.
     pub numbers: u16,
 }
 
@@ -40,7 +43,7 @@ pub enum Frame<E> {
 impl<E> Frame<E> {
     // Refuses a frame whose acknowledgement, at place 7, or number, at place 9, is not below its cycle.
     fn on_cycle(&self, format: Format) -> Result<(), Refusal>
-        ensures { λ r. ⌜ r ≡ refusing (pastCycle format (now (self .entry))) ⌝ }
+        ensures { λ r. ⌜ r ≡ unless tt (pastCycle format (now (self .entry))) ⌝ }
     {
         let (ack, number) = match self {
             Frame::Bare { ack } => (*ack, None),

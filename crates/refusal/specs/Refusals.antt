@@ -5,6 +5,8 @@ use Rattle.std.specs.Written.{decimal}
 use lib.Chars.{codes}
 use Rattle.std.specs.declared.option.Option.{Option}
 use Rattle.std.specs.declared.option.Option.the-variants.{Some, None}
+use Rattle.std.specs.declared.result.Result.{Result}
+use Rattle.std.specs.declared.result.Result.the-variants.{Ok, Err}
 use Rattle.refusal.specs.declared.Refusal.{Refusal}
 use Rattle.refusal.specs.declared.Refusal.the-variants.{WindowOutOfLimits, BoundOutOfLimits, CycleOutOfLimits, WindowFull, NotHeld, AirFull, NoFrame, BoundReached, SizeOutOfLimits, FrameLength, MarkOrVersion, WrongCheck, WrongField, NumberPastCycle, NoElement, ListTooShort, FieldOutOfRange, NoRoomInAir}
 
@@ -79,3 +81,8 @@ placeShown (Some place) = codes " at byte " ++ decimal place
 -- what is printed of a refusal: its number, its place and its reason
 abbrev pub shownOf : Refusal → Option (List ℕ)
 shownOf r = Some (codes "refusal " ++ (decimal (numberOf r) ++ (placeShown (placeOf r) ++ (codes ": " ++ reasonOf r))))
+
+-- an answer, unless there is a cause to refuse
+abbrev pub unless : {A E : Type 0} → A → Option E → Result A E
+unless x None = Ok x
+unless x (Some cause) = Err cause

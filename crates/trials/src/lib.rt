@@ -27,20 +27,105 @@ mod tests {
     #[test]
     fn readings_at_the_ends_of_their_ranges() -> Result<(), Fail> {
         let table = [
-            (Reading { time: u32::MAX, ..CALM }, None),
-            (Reading { height: -5_000, ..CALM }, None),
-            (Reading { height: -5_001, ..CALM }, Some(4)),
-            (Reading { height: 500_000, ..CALM }, None),
-            (Reading { height: 500_001, ..CALM }, Some(4)),
-            (Reading { temperature: -12_000, ..CALM }, None),
-            (Reading { temperature: -12_001, ..CALM }, Some(8)),
-            (Reading { temperature: 6_000, ..CALM }, None),
-            (Reading { temperature: 6_001, ..CALM }, Some(8)),
-            (Reading { humidity: 1_000, ..CALM }, None),
-            (Reading { humidity: 1_001, ..CALM }, Some(10)),
-            (Reading { pressure: 11_000, ..CALM }, None),
-            (Reading { pressure: 11_001, ..CALM }, Some(12)),
-            (Reading { humidity: 1_001, pressure: 11_001, ..CALM }, Some(10)),
+            (
+                Reading {
+                    time: u32::MAX,
+                    ..CALM
+                },
+                None,
+            ),
+            (
+                Reading {
+                    height: -5_000,
+                    ..CALM
+                },
+                None,
+            ),
+            (
+                Reading {
+                    height: -5_001,
+                    ..CALM
+                },
+                Some(4),
+            ),
+            (
+                Reading {
+                    height: 500_000,
+                    ..CALM
+                },
+                None,
+            ),
+            (
+                Reading {
+                    height: 500_001,
+                    ..CALM
+                },
+                Some(4),
+            ),
+            (
+                Reading {
+                    temperature: -12_000,
+                    ..CALM
+                },
+                None,
+            ),
+            (
+                Reading {
+                    temperature: -12_001,
+                    ..CALM
+                },
+                Some(8),
+            ),
+            (
+                Reading {
+                    temperature: 6_000,
+                    ..CALM
+                },
+                None,
+            ),
+            (
+                Reading {
+                    temperature: 6_001,
+                    ..CALM
+                },
+                Some(8),
+            ),
+            (
+                Reading {
+                    humidity: 1_000,
+                    ..CALM
+                },
+                None,
+            ),
+            (
+                Reading {
+                    humidity: 1_001,
+                    ..CALM
+                },
+                Some(10),
+            ),
+            (
+                Reading {
+                    pressure: 11_000,
+                    ..CALM
+                },
+                None,
+            ),
+            (
+                Reading {
+                    pressure: 11_001,
+                    ..CALM
+                },
+                Some(12),
+            ),
+            (
+                Reading {
+                    humidity: 1_001,
+                    pressure: 11_001,
+                    ..CALM
+                },
+                Some(10),
+            ),
         ];
         for (reading, fault) in table {
             check_eq(reading.fault(), fault)?;
@@ -55,9 +140,27 @@ mod tests {
             (Order::Tune { khz: 400_150 }, None),
             (Order::Tune { khz: 406_000 }, None),
             (Order::Tune { khz: 406_001 }, Some(1)),
-            (Order::Point { bearing: 35_999, elevation: 9_000 }, None),
-            (Order::Point { bearing: 36_000, elevation: 9_001 }, Some(1)),
-            (Order::Point { bearing: 35_999, elevation: 9_001 }, Some(3)),
+            (
+                Order::Point {
+                    bearing: 35_999,
+                    elevation: 9_000,
+                },
+                None,
+            ),
+            (
+                Order::Point {
+                    bearing: 36_000,
+                    elevation: 9_001,
+                },
+                Some(1),
+            ),
+            (
+                Order::Point {
+                    bearing: 35_999,
+                    elevation: 9_001,
+                },
+                Some(3),
+            ),
             (Order::Note { number: u32::MAX }, None),
         ];
         for (order, fault) in table {

@@ -3,25 +3,19 @@ use Prim.Native.Nat.{ℕ}
 use mathlib.Core.List.{List, [], _∷_}
 use mathlib.Core.Path.{_≡_}
 use lib.IntN.{pos}
-use Rattle.std.specs.declared.option.Option.{Option}
-use Rattle.std.specs.declared.option.Option.the-variants.{Some, None}
-use Rattle.std.specs.declared.result.Result.{Result}
+use Rattle.std.specs.declared.option.Option.the-variants.{Some}
 use Rattle.std.specs.declared.result.Result.the-variants.{Ok, Err}
 use Rattle.bytes.specs.Checks.{check, folded, wordSum}
 use Rattle.element.specs.Kinds.{madeFrom}
 use Rattle.element.specs.Orders.{orderCoding}
 use Rattle.element.specs.Readings.{readingCoding}
-use Rattle.element.specs.declared.order.Order.{Order}
 use Rattle.element.specs.declared.order.Order.the-variants.{Note}
 use Rattle.element.specs.declared.reading.Reading.{Reading}
 use Rattle.refusal.specs.Refusals.{numberOf, placeOf}
-use Rattle.refusal.specs.declared.Refusal.{Refusal}
 use Rattle.refusal.specs.declared.Refusal.the-variants.{FieldOutOfRange, NoElement}
-use Rattle.frame.specs.Formats.{frameBytes}
 use Rattle.frame.specs.Reads.{hearFrom}
 use Rattle.frame.specs.Writes.{bytesOf}
 use Rattle.frame.specs.declared.Format.{Format}
-use Rattle.frame.specs.declared.Frame.{Frame}
 use Rattle.frame.specs.declared.Frame.the-variants.{Bare, Laden}
 use Rattle.frame.specs.declared.Side.{Side}
 use Rattle.frame.specs.declared.Side.the-variants.{Mast, Hut}

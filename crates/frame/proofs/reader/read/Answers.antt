@@ -1,10 +1,9 @@
-use mathlib.Core.Path.{_≡_, sym, _∙_, subst}
+use mathlib.Core.Path.{_≡_, sym}
 use Prim.Native.Nat.{_<_}
 use borrow.Author.Needs.{needs}
 use Rattle.std.proofs.shelf.Elements.{all-from-getD}
 use Rattle.frame.specs.Formats.{answered}
 use Rattle.frame.specs.Reads.{readFrom}
-use Rattle.frame.specs.Trips.{OnlyWritten}
 use Rattle.frame.proofs.Damages.{safe-read}
 use Rattle.frame.proofs.Middles.{middle}
 use Rattle.frame.proofs.Trips.{only-read}
