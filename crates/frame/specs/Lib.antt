@@ -1,3 +1,4 @@
+pub mod Causes
 pub mod Formats
 pub mod Reads
 pub mod Trips

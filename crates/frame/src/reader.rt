@@ -2,6 +2,7 @@
 ghost use mathlib.Core.Path.{_≡_};
 ghost use mathlib.Core.Bool.{true};
 ghost use Rattle.std.specs.Results.{isOk};
+ghost use Rattle.frame.specs.Causes.{SmallestFirst};
 ghost use Rattle.frame.specs.Formats.{answered};
 ghost use Rattle.frame.specs.Reads.{bareIn, frameIn, hearFrom, isSealed, ladenIn, onCycle, readFrom};
 ghost use Rattle.frame.specs.Trips.{OneByteSafe, OnlyHeard, OnlyWritten};
@@ -98,6 +99,7 @@ pub fn read<'a, K: Kind>(format: Format, bytes: &'a [u8]) -> Result<Frame<&'a [u
     ensures answer { λ r. ⌜ answered (λ e. now e) r ≡ readFrom format (coding .width) (now (bytes .entry)) ⌝ }
     ensures only { λ r. ⌜ OnlyWritten format (coding .width) (now (bytes .entry)) (answered (λ e. now e) r) ⌝ }
     ensures safe { λ r. ⌜ (isOk r ≡ true → OneByteSafe format (coding .width) (now (bytes .entry))) ⌝ }
+    ensures smallest { λ r. ⌜ SmallestFirst format (coding .width) (now (bytes .entry)) r ⌝ }
 {
     if bytes.len() > LONGEST {
         return Err(Refusal::FrameLength);
