@@ -15,7 +15,6 @@ use Rattle.refusal.specs.declared.Refusal.the-variants.{FrameLength, MarkOrVers
 use Rattle.frame.specs.Formats.{senderByte}
 use Rattle.frame.specs.Reads.{carriedIn, headerIn, isMarked, isSealed}
 use Rattle.frame.specs.declared.Format.{Format}
-use Rattle.frame.specs.declared.Frame.{Frame}
 use Rattle.frame.specs.declared.header.Header.{Header}
 
 -- a refusal, and whether its cause applies

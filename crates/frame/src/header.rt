@@ -1,4 +1,4 @@
-// The header of a frame: its first twelve bytes. They begin with the mark, "MHL", and the version, 1.
+// The header of a frame: its first twelve bytes.
 ghost use mathlib.Core.Path.{_≡_};
 ghost use Rattle.frame.specs.Formats.{headerBytes, senderByte};
 use crate::Side;
@@ -12,6 +12,9 @@ pub(crate) struct Header {
     pub number: u16,
     pub width: u8,
 }
+
+// The version of the format: two bytes behind the mark, "MHL", of which the higher one is 0.
+pub(crate) const VERSION: u8 = 1;
 
 // How many bytes a header has.
 pub(crate) const HEADER: usize = 12;
@@ -40,11 +43,11 @@ impl Header {
         let [a0, a1] = self.ack.to_be_bytes();
         let [n0, n1] = self.number.to_be_bytes();
         [
-            0x4D,
-            0x48,
-            0x4C,
+            b'M',
+            b'H',
+            b'L',
             0,
-            1,
+            VERSION,
             self.tag,
             self.sender,
             a0,

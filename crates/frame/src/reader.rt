@@ -14,6 +14,7 @@ use crate::header::BARE;
 use crate::header::HEADER;
 use crate::header::Header;
 use crate::header::LADEN;
+use crate::header::VERSION;
 use crate::header::sender_byte;
 use bytes::check_of;
 use element::Kind;
@@ -105,9 +106,9 @@ pub fn read<'a, K: Kind>(format: Format, bytes: &'a [u8]) -> Result<Frame<&'a [u
         return Err(Refusal::FrameLength);
     }
     let [
-        m0,
-        m1,
-        m2,
+        m,
+        h,
+        l,
         v0,
         v1,
         tag,
@@ -125,7 +126,7 @@ pub fn read<'a, K: Kind>(format: Format, bytes: &'a [u8]) -> Result<Frame<&'a [u
     let [element @ .., _, _] = rest else {
         return Err(Refusal::FrameLength);
     };
-    if *m0 != 0x4D || *m1 != 0x48 || *m2 != 0x4C || *v0 != 0 || *v1 != 1 {
+    if *m != b'M' || *h != b'H' || *l != b'L' || *v0 != 0 || *v1 != VERSION {
         return Err(Refusal::MarkOrVersion);
     }
     if !sealed(bytes) {
