@@ -3,6 +3,7 @@ use element::Kind;
 use element::reading::Reading;
 use element::reading::ReadingKind;
 use element::reading::ReadingPartialEq;
+use frame::Cycles;
 use frame::Format;
 use frame::Frame;
 use frame::FramePartialEq;
@@ -10,6 +11,7 @@ use frame::LONGEST;
 use frame::Side;
 use frame::hear;
 use frame::write;
+use refusal::Refusal;
 use refusal::RefusalDebug;
 use refusal::RefusalDisplay;
 use refusal::RefusalError;
@@ -18,18 +20,22 @@ use std::error::AnyError;
 use std::fmt;
 use std::io;
 
-// Hut-bound frames: the mast sends them, on a cycle of 11, and acknowledges on the mast-bound cycle of 17.
+// Hut-bound frames: the mast sends them on a cycle of 11, and acknowledges the other stream's cycle of 17.
 const HUT_BOUND: Format = Format {
     sender: Side::Mast,
-    acks: 17,
-    numbers: 11,
+    cycles: Cycles {
+        ack: 17,
+        number: 11,
+    },
 };
 
 // Mast-bound frames, which the hut sends.
 const MAST_BOUND: Format = Format {
     sender: Side::Hut,
-    acks: 11,
-    numbers: 17,
+    cycles: Cycles {
+        ack: 11,
+        number: 17,
+    },
 };
 
 // A number of tenths or hundredths, as people write it.
@@ -89,7 +95,7 @@ fn show_bytes(rt: &impl Print, bytes: &[u8]) -> io::Result<()> {
     Ok(())
 }
 
-// A reading that the instruments could have told, and one that they could not.
+// Makes a reading, and tries to make the same with a little more humidity than there can be.
 fn tell_making(rt: &impl Print) -> Result<Reading, AnyError> {
     let reading = Reading {
         time: 4_212,
@@ -99,16 +105,14 @@ fn tell_making(rt: &impl Print) -> Result<Reading, AnyError> {
         pressure: 8_431,
     }.make()?;
     println!(rt, "The mast makes a reading: {}.", Told(reading))?;
-    let wet = Reading {
-        time: 4_213,
-        height: 15_236,
-        temperature: -426,
-        humidity: 1_001,
-        pressure: 8_431,
-    };
-    match wet.make() {
-        Ok(_) => println!(rt, "A reading of 100.1 % is made too.")?,
-        Err(refusal) => println!(rt, "A reading of 100.1 % is not made: {refusal}.")?,
+    let humidity = Reading::MAX_HUMIDITY + 1;
+    let percent = tenths(i64::from(humidity));
+    match (Reading {
+        humidity,
+        ..reading
+    }).make() {
+        Ok(_) => println!(rt, "With {percent} % it is made too.")?,
+        Err(refusal) => println!(rt, "With {percent} % it is not made: {refusal}.")?,
     }
     Ok(reading)
 }
@@ -142,31 +146,49 @@ struct Tally {
     refused: [u32; 19],
 }
 
-// Hears the first n bytes of the area with each of their bits turned over, one at a time.
-fn turn_each_bit(area: &[u8; LONGEST], n: usize) -> Tally {
+impl Tally {
+    // Counts one more answer.
+    fn count(&mut self, answer: Result<Frame<Reading>, Refusal>) {
+        match answer {
+            Ok(_) => self.heard = self.heard.saturating_add(1),
+            Err(refusal) => {
+                let number = usize::from(refusal.number());
+                self.refused[number] = self.refused[number].saturating_add(1);
+            }
+        }
+    }
+}
+
+// An area that begins with a frame, one of whose bits is turned over.
+fn with_bit_turned(frame: &[u8], place: usize, bit: u32) -> [u8; LONGEST] {
+    let mut area = [0; LONGEST];
+    let n = frame.len().min(LONGEST);
+    area[0..n].copy_from_slice(&frame[0..n]);
+    if place < n {
+        area[place] ^= 1 << (bit % 8);
+    }
+    area
+}
+
+// Hears a frame with each of its bits turned over, one at a time.
+fn turn_each_bit(frame: &[u8]) -> Tally {
     let mut tally = Tally {
         heard: 0,
         refused: [0; 19],
     };
-    for place in 0..n.min(LONGEST) {
-        for bit in 0..8u32 {
-            let mut damaged = *area;
-            damaged[place] ^= 1 << bit;
-            match hear::<Reading>(HUT_BOUND, &damaged[0..n.min(LONGEST)]) {
-                Ok(_) => tally.heard = tally.heard.saturating_add(1),
-                Err(refusal) => {
-                    let number = usize::from(refusal.number());
-                    tally.refused[number] = tally.refused[number].saturating_add(1);
-                }
-            }
+    let n = frame.len().min(LONGEST);
+    for place in 0..n {
+        for bit in 0..8 {
+            let damaged = with_bit_turned(frame, place, bit);
+            tally.count(hear::<Reading>(HUT_BOUND, &damaged[0..n]));
         }
     }
     tally
 }
 
-fn tell_damage(rt: &impl Print, area: &[u8; LONGEST], n: usize) -> Result<(), AnyError> {
+fn tell_damage(rt: &impl Print, frame: &[u8]) -> Result<(), AnyError> {
     println!(rt, "Each bit is turned over on the way, one at a time:")?;
-    let tally = turn_each_bit(area, n);
+    let tally = turn_each_bit(frame);
     for (number, count) in tally.refused.iter().enumerate() {
         if *count > 0 {
             println!(rt, "    {count} times refusal {number}")?;
@@ -177,21 +199,23 @@ fn tell_damage(rt: &impl Print, area: &[u8; LONGEST], n: usize) -> Result<(), An
 }
 
 fn tell(rt: &impl Print) -> Result<(), AnyError> {
-    let reading = tell_making(rt)?;
+    let element = tell_making(rt)?;
+    let (ack, number) = (3, 5);
     let frame = Frame::Laden {
-        ack: 3,
-        number: 5,
-        element: reading,
+        ack,
+        number,
+        element,
     };
     let mut area = [0; LONGEST];
     let n = write(HUT_BOUND, &frame, &mut area)?;
+    let bytes = &area[0..n];
     println!(
         rt,
-        "It goes out as reading number 5 with acknowledgement 3, in {n} bytes:"
+        "It goes out as reading number {number} with acknowledgement {ack}, in {n} bytes:"
     )?;
-    show_bytes(rt, &area[0..n])?;
-    tell_hearing(rt, "The hut", HUT_BOUND, &area[0..n])?;
-    let same = hear::<Reading>(HUT_BOUND, &area[0..n]) == Ok(frame);
+    show_bytes(rt, bytes)?;
+    tell_hearing(rt, "The hut", HUT_BOUND, bytes)?;
+    let same = hear::<Reading>(HUT_BOUND, bytes) == Ok(frame);
     println!(
         rt,
         "{}",
@@ -205,15 +229,15 @@ fn tell(rt: &impl Print) -> Result<(), AnyError> {
         rt,
         "The mast, to which its own frame comes back,",
         MAST_BOUND,
-        &area[0..n],
+        bytes,
     )?;
     tell_hearing(
         rt,
         "The hut, to which the last byte is lost,",
         HUT_BOUND,
-        &area[0..n - 1],
+        &bytes[0..n - 1],
     )?;
-    tell_damage(rt, &area, n)
+    tell_damage(rt, bytes)
 }
 
 fn main(rt: LibcRuntime) -> Result<(), AnyError> {

@@ -19,10 +19,6 @@ wordSum-more (a ∷ b ∷ xs) h = rw take-rest
 pub folded-carry : (a b s : ℕ) → folded (onesSum a b + s) ≡ folded (a + b + s)
 folded-carry a b s = grind (arith, tells)
 
--- a word is its own folded sum
-pub folded-word : (a : ℕ) → a ≤ 65535 → folded a ≡ a
-folded-word a h = grind (arith, tells)
-
 -- one turn of the sum: the next word is added, and the bytes behind it are left
 pub folded-turn : (sum next : ℕ) (rest : List ℕ) → 2 ≤ length rest → next ≡ onesSum sum (number16 (getD rest 0 0) (getD rest 1 0)) → folded (next + wordSum (take (length rest - 2) (drop 2 rest))) ≡ folded (sum + wordSum rest)
 folded-turn sum next rest h e =

@@ -7,6 +7,7 @@ use element::order::OrderPartialEq;
 use element::reading::Reading;
 use element::reading::ReadingKind;
 use element::reading::ReadingPartialEq;
+use frame::Cycles;
 use frame::Format;
 use frame::Frame;
 use frame::FramePartialEq;
@@ -25,8 +26,7 @@ const BLANK: u8 = 0xAA;
 fn frames_of(sender: Side) -> Format {
     Format {
         sender,
-        acks: 8,
-        numbers: 8,
+        cycles: Cycles { ack: 8, number: 8 },
     }
 }
 
@@ -141,7 +141,7 @@ fn humidity() -> bool {
     };
     let made = humid(1_000).make() == Ok(humid(1_000));
     let refused = match humid(1_001).make() {
-        Err(refusal) => refusal.number() == 17 && refusal.place() == None,
+        Err(refusal) => refusal.number() == 17 && refusal.place().is_none(),
         Ok(_) => false,
     };
     let unheard = match hear::<Reading>(frames_of(Side::Mast), &bytes) {

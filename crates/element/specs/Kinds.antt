@@ -1,5 +1,5 @@
 -- What a kind of element says of its values, and what making, writing and reading answer for every kind.
-use Prim.Native.Nat.{ℕ}
+use Prim.Native.Nat.{ℕ, _<_}
 use mathlib.Core.Bool.{Bool, cond}
 use mathlib.Core.List.{List, [], _∷_}
 use Rattle.std.specs.declared.option.Option.{Option}
@@ -18,6 +18,12 @@ pub record Field : Type 0 where
 
 abbrev pub field : ℕ → Bool → Field
 field at out = record { offset = at; outside = out }
+
+-- the fields stand in the order of their offsets
+abbrev pub InOrder : List Field → Type 0
+InOrder [] = Unit {0}
+InOrder (f ∷ []) = Unit {0}
+InOrder (f ∷ g ∷ fs) = (f .offset < g .offset) × InOrder (g ∷ fs)
 
 -- the offset of the first field out of range
 abbrev pub firstFault : List Field → Option ℕ

@@ -7,7 +7,7 @@ ghost use Rattle.std.specs.declared.option.Option.the-variants.{Some, None};
 ghost use Rattle.std.specs.declared.result.Result.the-variants.{Ok, Err};
 ghost use Rattle.std.specs.shelf.Lists.{All};
 ghost use Rattle.bytes.specs.Areas.{front};
-ghost use Rattle.element.specs.Kinds.{Coding, elementFrom, elementInto, faultOf, madeFrom};
+ghost use Rattle.element.specs.Kinds.{Coding, InOrder, elementFrom, elementInto, faultOf, madeFrom};
 use refusal::Refusal;
 
 pub mod order;
@@ -45,10 +45,13 @@ pub trait Kind: Copy {
     // Bytes that hold a value are the bytes of that value, so that no other bytes hold it.
     law only: { (bs : List ℕ) (e : Self) → All (λ b. b < 256) bs → coding .value bs ≡ Some e → coding .written e ≡ bs };
 
+    // The fields stand in the order of their offsets, so that the first one at fault has the lowest.
+    law ordered: { (e : Self) → InOrder (coding .fields e) };
+
     // A field at fault lies within the element.
     law inside: { (e : Self) (at : ℕ) → faultOf coding e ≡ Some at → at < coding .width };
 
-    // The width: `Self::W`, where it can be read under a bound.
+    // The width; each kind answers its `W`, which code under a bound cannot read.
     fn width() -> usize
         ensures { λ r. ⌜ r ≡ coding .width ⌝ };
 
@@ -81,7 +84,7 @@ pub trait Kind: Copy {
         ensures answer { λ r. ⌜ (r, now (area .exit)) ≡ elementInto coding (now (self .entry)) (now (area .entry)) ⌝ }
         ensures back { λ r. ⌜ elim r [ Ok n ↦ elementFrom coding (take n (now (area .exit))) ≡ Ok (now (self .entry)) | Err _ ↦ Unit {0} ] ⌝ }
     {
-        if let Some(_) = self.fault() {
+        if self.fault().is_some() {
             return Err(Refusal::FieldOutOfRange);
         }
         self.lay_out(area);

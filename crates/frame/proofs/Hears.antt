@@ -54,7 +54,7 @@ module _ {K : Type 0} (kind : Coding K) (format : Format) (exact : (e : K) → l
   pub sized : (f : Frame K) (r : Result ℕ Refusal) (old area : List ℕ) → kind .width ≤ 18 → (r, area) ≡ writtenUnless (unfit kind f) (bytesOf kind format f) old → Sized r
   sized f r old area narrow wrote = by-size (unfit kind f) f r old area narrow wrote
 
-  module _ (acks : format .acks ≤ 65536) (numbers : format .numbers ≤ 65536) (narrow : kind .width ≤ 18) where
+  module _ (acks : format .cycles .ack ≤ 65536) (numbers : format .cycles .number ≤ 65536) (narrow : kind .width ≤ 18) where
     -- a frame that may be written is heard from its bytes
     pub hears-back : (f : Frame K) → pastCycle format f ≡ None → unfit kind f ≡ None → hearFrom kind format (bytesOf kind format f) ≡ Ok f
     hears-back f past fit =

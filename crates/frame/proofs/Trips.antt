@@ -52,7 +52,7 @@ said side w (Bare ack) h = grind (arith, tells)
 said side w (Laden ack number element) h = grind (arith, tells)
 
 -- a frame whose numbers are below cycles of 16 bits, by its header
-small : (format : Format) (f : Frame (List ℕ)) → format .acks ≤ 65536 → format .numbers ≤ 65536 → pastCycle format f ≡ None → (headerOf (format .sender) f .ack < 65536) × (headerOf (format .sender) f .number < 65536)
+small : (format : Format) (f : Frame (List ℕ)) → format .cycles .ack ≤ 65536 → format .cycles .number ≤ 65536 → pastCycle format f ≡ None → (headerOf (format .sender) f .ack < 65536) × (headerOf (format .sender) f .number < 65536)
 small format (Bare ack) a n h = grind (arith, tells)
 small format (Laden ack number element) a n h = grind (arith, tells)
 
@@ -61,7 +61,7 @@ narrow w (Bare ack) h p = omega arith
 narrow w (Laden ack number element) h p = omega arith
 
 -- the bytes of a frame are read as that frame
-pub reads-back : (format : Format) (w : ℕ) (f : Frame (List ℕ)) → format .acks ≤ 65536 → format .numbers ≤ 65536 → w ≤ 18 → Wide w f → pastCycle format f ≡ None → readFrom format w (frameBytes (format .sender) f) ≡ Ok f
+pub reads-back : (format : Format) (w : ℕ) (f : Frame (List ℕ)) → format .cycles .ack ≤ 65536 → format .cycles .number ≤ 65536 → w ≤ 18 → Wide w f → pastCycle format f ≡ None → readFrom format w (frameBytes (format .sender) f) ≡ Ok f
 unfolding frameBytes
 reads-back format w f a n h wide cycled =
     let s = small format f a n cycled in

@@ -1,6 +1,6 @@
 -- All causes for which bytes are no frame, each by itself, in the order of their numbers and places.
 use Prim.Native.Nat.{ℕ, _-_}
-use mathlib.Core.Bool.{Bool, true, cond, not, _&&_, _||_}
+use mathlib.Core.Bool.{Bool, true, false, cond, not, _&&_, _||_}
 use mathlib.Core.List.{List, [], _∷_}
 use mathlib.Core.Path.{_≡_}
 use lib.Dec.{eqb, ltb}
@@ -36,8 +36,8 @@ headerCauses format width h carried =
     ∷ cause (WrongField 6) (not (eqb (h .sender) (senderByte (format .sender))))
     ∷ cause (WrongField 9) (eqb (h .tag) 1 && not (eqb (h .number) 0))
     ∷ cause (WrongField 11) (not (eqb (h .width) (due width h)) || not (eqb (length carried) (due width h)))
-    ∷ cause (NumberPastCycle 7) (not (ltb (h .ack) (format .acks)))
-    ∷ cause (NumberPastCycle 9) (eqb (h .tag) 2 && not (ltb (h .number) (format .numbers)))
+    ∷ cause (NumberPastCycle 7) (not (ltb (h .ack) (format .cycles .ack)))
+    ∷ cause (NumberPastCycle 9) (eqb (h .tag) 2 && not (ltb (h .number) (format .cycles .number)))
     ∷ []
 
 -- the causes in some bytes
@@ -60,9 +60,9 @@ refusalIn (Err r) = Some r
 
 -- whether one place comes before another; a refusal without a place comes first
 abbrev pub placeBefore : Option ℕ → Option ℕ → Bool
-placeBefore None None = true
+placeBefore None None = false
 placeBefore None (Some q) = true
-placeBefore (Some p) None = not true
+placeBefore (Some p) None = false
 placeBefore (Some p) (Some q) = ltb p q
 
 -- whether one refusal is told before another: by its number, and where these are equal by its place

@@ -1,5 +1,5 @@
 -- The bytes of a frame, and the cycles that its numbers are taken from.
-use Prim.Native.Nat.{ℕ, _/_, _%_}
+use Prim.Native.Nat.{ℕ}
 use mathlib.Core.Path.{_≡_}
 use mathlib.Core.Bool.{cond}
 use mathlib.Core.List.{List, [], _∷_, _++_}
@@ -27,9 +27,7 @@ senderByte Hut = 2
 
 -- the twelve bytes of a header: the mark "MHL", version 1, and the fields
 abbrev pub headerBytes : Header → List ℕ
-headerBytes h =
-    0x4D ∷ 0x48 ∷ 0x4C ∷ 0 ∷ 1 ∷ h .tag ∷ h .sender
-    ∷ (h .ack / 256 % 256) ∷ (h .ack % 256) ∷ (h .number / 256 % 256) ∷ (h .number % 256) ∷ h .width ∷ []
+headerBytes h = 0x4D ∷ 0x48 ∷ 0x4C ∷ 0 ∷ 1 ∷ h .tag ∷ h .sender ∷ (bytes16 (h .ack) ++ (bytes16 (h .number) ++ (h .width ∷ [])))
 
 -- some bytes with their check behind them
 abbrev pub sealedBytes : List ℕ → List ℕ
@@ -62,9 +60,9 @@ module _ {A B : Type 0} (f : A → B) where
 
 -- the refusal of a frame whose acknowledgement or number is not below its cycle
 abbrev pub pastCycle : {E : Type 0} → Format → Frame E → Option Refusal
-pastCycle format (Bare ack) = cond (ltb ack (format .acks)) None (Some (NumberPastCycle 7))
+pastCycle format (Bare ack) = cond (ltb ack (format .cycles .ack)) None (Some (NumberPastCycle 7))
 pastCycle format (Laden ack number element) =
-    cond (ltb ack (format .acks)) (cond (ltb number (format .numbers)) None (Some (NumberPastCycle 9))) (Some (NumberPastCycle 7))
+    cond (ltb ack (format .cycles .ack)) (cond (ltb number (format .cycles .number)) None (Some (NumberPastCycle 9))) (Some (NumberPastCycle 7))
 
 -- a frame with an element that is so wide, or with none
 abbrev pub Wide : ℕ → Frame (List ℕ) → Type 0

@@ -66,6 +66,18 @@ abbrev pub onCycle : Format → Result (Frame (List ℕ)) Refusal → Result (Fr
 onCycle format (Ok f) = unless f (pastCycle format f)
 onCycle format (Err r) = Err r
 
+-- the header and what lies between it and the check, in bytes of a right length that begin with the mark and the version
+abbrev pub partsIn : List ℕ → Result (Header × List ℕ) Refusal
+partsIn bs =
+    cond (ltb (length bs) 14 || ltb 32 (length bs)) (Err FrameLength)
+    (cond (not (isMarked bs)) (Err MarkOrVersion)
+    (Ok (headerIn bs, carriedIn bs)))
+
+-- the same parts with another form of what is carried
+abbrev pub partsSeen : {A B : Type 0} → (A → B) → Result (Header × A) Refusal → Result (Header × B) Refusal
+partsSeen f (Ok p) = Ok (p .0, f (p .1))
+partsSeen f (Err r) = Err r
+
 -- the frame in some bytes, for a kind that is so wide
 abbrev pub readFrom : Format → ℕ → List ℕ → Result (Frame (List ℕ)) Refusal
 readFrom format width bs =

@@ -21,15 +21,20 @@ pub enum Side {
     Hut,
 }
 
-// What a frame is held against.
+// The cycles that a frame's two numbers are taken from. The numbers of a cycle are those below it.
+#[derive(Clone, Copy, PartialEq, Eq, Debug)]
+pub struct Cycles {
+    // The cycle of the stream that is acknowledged.
+    pub ack: u16,
+    // The cycle of the stream that the frame belongs to.
+    pub number: u16,
+}
+
+// What a frame is held against: the side that sends it, and its cycles.
 #[derive(Clone, Copy, PartialEq, Eq, Debug)]
 pub struct Format {
-    // The side that sends it.
     pub sender: Side,
-    // The cycle of its acknowledgement, which is below this.
-    pub acks: u16,
-    // The cycle of its number, which is below this.
-    pub numbers: u16,
+    pub cycles: Cycles,
 }
 
 // A frame: bare, with the acknowledgement alone, or laden, with a number and an element too. The element is a value of its
@@ -53,18 +58,17 @@ impl<E> Frame<E> {
                 element: _,
             } => (*ack, Some(*number)),
         };
-        if ack >= format.acks {
+        if ack >= format.cycles.ack {
             return Err(Refusal::NumberPastCycle { place: 7 });
         }
         match number {
-            Some(number) if number >= format.numbers => Err(Refusal::NumberPastCycle { place: 9 }),
+            Some(number) if number >= format.cycles.number => Err(Refusal::NumberPastCycle {
+                place: 9,
+            }),
             _ => Ok(()),
         }
     }
 }
-
-// The shortest frame, in bytes: a header and a check.
-pub const SHORTEST: usize = 14;
 
 // The longest frame, in bytes, and so the size of every area that a frame is written into.
 pub const LONGEST: usize = 32;

@@ -4,7 +4,7 @@ ghost use mathlib.Core.Bool.{true};
 ghost use Rattle.std.specs.Results.{isOk};
 ghost use Rattle.frame.specs.Causes.{SmallestFirst};
 ghost use Rattle.frame.specs.Formats.{answered};
-ghost use Rattle.frame.specs.Reads.{bareIn, frameIn, hearFrom, isSealed, ladenIn, onCycle, readFrom};
+ghost use Rattle.frame.specs.Reads.{bareIn, frameIn, hearFrom, isSealed, ladenIn, onCycle, partsIn, partsSeen, readFrom};
 ghost use Rattle.frame.specs.Trips.{OneByteSafe, OnlyHeard, OnlyWritten};
 use crate::Format;
 use crate::Frame;
@@ -38,7 +38,7 @@ impl Header {
         if self.number != 0 {
             return Err(Refusal::WrongField { place: 9 });
         }
-        if self.width != 0 || element.len() != 0 {
+        if self.width != 0 || !element.is_empty() {
             return Err(Refusal::WrongField { place: 11 });
         }
         Ok(Frame::Bare { ack: self.ack })
@@ -48,7 +48,7 @@ impl Header {
     fn laden<'a>(self, width: usize, element: &'a [u8]) -> Result<Frame<&'a [u8]>, Refusal>
         ensures { λ r. ⌜ answered (λ e. now e) r ≡ ladenIn width self (now (element .entry)) ⌝ }
     {
-        if self.width as usize != width || element.len() != width {
+        if usize::from(self.width) != width || element.len() != width {
             return Err(Refusal::WrongField { place: 11 });
         }
         Ok(Frame::Laden {
@@ -58,8 +58,8 @@ impl Header {
         })
     }
 
-    // The frame that the header says, from a sender, with the bytes between it and the check.
-    fn said<'a>(
+    // The frame that the header says, with the bytes between it and the check, if its fields are well formed.
+    fn well_formed<'a>(
         self,
         sender: Side,
         width: usize,
@@ -80,7 +80,7 @@ impl Header {
         }
     }
 
-    // The same, and its numbers are below their cycles.
+    // The same, if its numbers are below their cycles too.
     fn frame<'a>(
         self,
         format: Format,
@@ -89,18 +89,16 @@ impl Header {
     ) -> Result<Frame<&'a [u8]>, Refusal>
         ensures { λ r. ⌜ answered (λ e. now e) r ≡ onCycle format (frameIn (format .sender) width self (now (element .entry))) ⌝ }
     {
-        let frame = self.said(format.sender, width, element)?;
+        let frame = self.well_formed(format.sender, width, element)?;
         frame.on_cycle(format)?;
         Ok(frame)
     }
 }
 
-// The frame in the bytes heard, for a kind K of element that is not looked into; or why they are none.
-pub fn read<'a, K: Kind>(format: Format, bytes: &'a [u8]) -> Result<Frame<&'a [u8]>, Refusal>
-    ensures answer { λ r. ⌜ answered (λ e. now e) r ≡ readFrom format (coding .width) (now (bytes .entry)) ⌝ }
-    ensures only { λ r. ⌜ OnlyWritten format (coding .width) (now (bytes .entry)) (answered (λ e. now e) r) ⌝ }
-    ensures safe { λ r. ⌜ (isOk r ≡ true → OneByteSafe format (coding .width) (now (bytes .entry))) ⌝ }
-    ensures smallest { λ r. ⌜ SmallestFirst format (coding .width) (now (bytes .entry)) r ⌝ }
+// The header of the bytes heard, and what lies between it and the check, if they are 14 to 32 and begin with the mark and the
+// version.
+fn parts<'a>(bytes: &'a [u8]) -> Result<(Header, &'a [u8]), Refusal>
+    ensures { λ r. ⌜ partsSeen (λ e. now e) r ≡ partsIn (now (bytes .entry)) ⌝ }
 {
     if bytes.len() > LONGEST {
         return Err(Refusal::FrameLength);
@@ -129,11 +127,6 @@ pub fn read<'a, K: Kind>(format: Format, bytes: &'a [u8]) -> Result<Frame<&'a [u
     if *m != b'M' || *h != b'H' || *l != b'L' || *v0 != 0 || *v1 != VERSION {
         return Err(Refusal::MarkOrVersion);
     }
-    if !sealed(bytes) {
-        return Err(Refusal::WrongCheck {
-            place: bytes.len() - 2,
-        });
-    }
     let header = Header {
         tag: *tag,
         sender: *sender,
@@ -141,6 +134,22 @@ pub fn read<'a, K: Kind>(format: Format, bytes: &'a [u8]) -> Result<Frame<&'a [u
         number: u16::from_be_bytes([*n0, *n1]),
         width: *width,
     };
+    Ok((header, element))
+}
+
+// The frame in the bytes heard, for a kind K of element that is not looked into; or why they are none.
+pub fn read<'a, K: Kind>(format: Format, bytes: &'a [u8]) -> Result<Frame<&'a [u8]>, Refusal>
+    ensures answer { λ r. ⌜ answered (λ e. now e) r ≡ readFrom format (coding .width) (now (bytes .entry)) ⌝ }
+    ensures only { λ r. ⌜ OnlyWritten format (coding .width) (now (bytes .entry)) (answered (λ e. now e) r) ⌝ }
+    ensures safe { λ r. ⌜ (isOk r ≡ true → OneByteSafe format (coding .width) (now (bytes .entry))) ⌝ }
+    ensures smallest { λ r. ⌜ SmallestFirst format (coding .width) (now (bytes .entry)) r ⌝ }
+{
+    let (header, element) = parts(bytes)?;
+    if !sealed(bytes) {
+        return Err(Refusal::WrongCheck {
+            place: bytes.len() - 2,
+        });
+    }
     header.frame(format, K::width(), element)
 }
 

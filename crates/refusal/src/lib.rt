@@ -1,4 +1,4 @@
-// Why a call says no. Every call of every crate refuses by a case of one enum, and changes nothing then.
+// Why a call says no: one enum for the calls of all crates. A call that refuses changes nothing.
 ghost use mathlib.Core.Path.{_≡_};
 ghost use Rattle.refusal.specs.Refusals.{numberOf, placeOf, reasonOf, shownOf};
 use std::error::Error;
@@ -106,7 +106,7 @@ impl Refusal {
             Refusal::WrongCheck { place: _ } => "the check is wrong",
             Refusal::WrongField { place: _ } => "a header field is wrong",
             Refusal::NumberPastCycle { place: _ } => "a number is not below its cycle",
-            Refusal::NoElement { place: _ } => "a field of the element is out of range",
+            Refusal::NoElement { place: _ } => "these bytes are no element of the kind",
             Refusal::ListTooShort => "a list is too short",
             Refusal::FieldOutOfRange => "a field is out of range",
             Refusal::NoRoomInAir => "an air has no room",

@@ -1,4 +1,5 @@
-// Tests of the definitions by examples: the ends of each range, the check against a plain sum, and frames with one thing wrong.
+// Tests by examples: the ends of each field's range, the check against a plain sum, frames of each length, and frames with one
+// thing wrong. The code is proved to answer what the definitions say; these hold both against values worked out by hand.
 #[cfg(test)]
 mod tests {
     use bytes::check_of;
@@ -7,12 +8,14 @@ mod tests {
     use element::order::OrderKind;
     use element::reading::Reading;
     use element::reading::ReadingKind;
+    use frame::Cycles;
     use frame::Format;
     use frame::Frame;
     use frame::LONGEST;
     use frame::Side;
     use frame::hear;
     use frame::write;
+    use refusal::RefusalDebug;
     use std::test::*;
 
     const CALM: Reading = Reading {
@@ -22,6 +25,30 @@ mod tests {
         humidity: 0,
         pressure: 0,
     };
+
+    const HUT_SENDS: Format = Format {
+        sender: Side::Hut,
+        cycles: Cycles { ack: 8, number: 5 },
+    };
+
+    fn at_height(height: i32) -> Reading {
+        Reading { height, ..CALM }
+    }
+
+    fn at_temperature(temperature: i16) -> Reading {
+        Reading {
+            temperature,
+            ..CALM
+        }
+    }
+
+    fn wet(humidity: u16, pressure: u16) -> Reading {
+        Reading {
+            humidity,
+            pressure,
+            ..CALM
+        }
+    }
 
     // The lowest and the highest value of each field are in range, and one beyond is not.
     #[test]
@@ -34,98 +61,18 @@ mod tests {
                 },
                 None,
             ),
-            (
-                Reading {
-                    height: -5_000,
-                    ..CALM
-                },
-                None,
-            ),
-            (
-                Reading {
-                    height: -5_001,
-                    ..CALM
-                },
-                Some(4),
-            ),
-            (
-                Reading {
-                    height: 500_000,
-                    ..CALM
-                },
-                None,
-            ),
-            (
-                Reading {
-                    height: 500_001,
-                    ..CALM
-                },
-                Some(4),
-            ),
-            (
-                Reading {
-                    temperature: -12_000,
-                    ..CALM
-                },
-                None,
-            ),
-            (
-                Reading {
-                    temperature: -12_001,
-                    ..CALM
-                },
-                Some(8),
-            ),
-            (
-                Reading {
-                    temperature: 6_000,
-                    ..CALM
-                },
-                None,
-            ),
-            (
-                Reading {
-                    temperature: 6_001,
-                    ..CALM
-                },
-                Some(8),
-            ),
-            (
-                Reading {
-                    humidity: 1_000,
-                    ..CALM
-                },
-                None,
-            ),
-            (
-                Reading {
-                    humidity: 1_001,
-                    ..CALM
-                },
-                Some(10),
-            ),
-            (
-                Reading {
-                    pressure: 11_000,
-                    ..CALM
-                },
-                None,
-            ),
-            (
-                Reading {
-                    pressure: 11_001,
-                    ..CALM
-                },
-                Some(12),
-            ),
-            (
-                Reading {
-                    humidity: 1_001,
-                    pressure: 11_001,
-                    ..CALM
-                },
-                Some(10),
-            ),
+            (at_height(-5_000), None),
+            (at_height(-5_001), Some(4)),
+            (at_height(500_000), None),
+            (at_height(500_001), Some(4)),
+            (at_temperature(-12_000), None),
+            (at_temperature(-12_001), Some(8)),
+            (at_temperature(6_000), None),
+            (at_temperature(6_001), Some(8)),
+            (wet(1_000, 11_000), None),
+            (wet(1_001, 11_000), Some(10)),
+            (wet(1_000, 11_001), Some(12)),
+            (wet(1_001, 11_001), Some(10)),
         ];
         for (reading, fault) in table {
             check_eq(reading.fault(), fault)?;
@@ -199,11 +146,7 @@ mod tests {
 
     // A frame of the hut with note 7, after one byte was set and the check mended.
     fn number_and_place(at: usize, byte: u8) -> Option<(u8, Option<usize>)> {
-        let format = Format {
-            sender: Side::Hut,
-            acks: 8,
-            numbers: 5,
-        };
+        let format = HUT_SENDS;
         let frame = Frame::Laden {
             ack: 1,
             number: 0,
@@ -246,5 +189,35 @@ mod tests {
             check_eq(number_and_place(at, byte), expected)?;
         }
         Ok(())
+    }
+
+    // What is heard of so many bytes that begin as a bare frame of the hut does, end with a right check, and are 0 between.
+    fn heard_of_length(n: usize) -> Option<(u8, Option<usize>)> {
+        let mut bytes = [0; 40];
+        let n = n.clamp(14, 40);
+        bytes[0..7].copy_from_slice(&[0x4D, 0x48, 0x4C, 0, 1, 1, 2]);
+        let [high, low] = check_of(&bytes[0..n - 2]).to_be_bytes();
+        bytes[n - 2] = high;
+        bytes[n - 1] = low;
+        match hear::<Order>(HUT_SENDS, &bytes[0..n]) {
+            Ok(_) => None,
+            Err(refusal) => Some((refusal.number(), refusal.place())),
+        }
+    }
+
+    #[test]
+    fn frames_of_each_length() -> Result<(), Fail> {
+        check_eq(heard_of_length(14), None)?;
+        check_eq(heard_of_length(15), Some((13, Some(11))))?;
+        check_eq(heard_of_length(32), Some((13, Some(11))))?;
+        check_eq(heard_of_length(33), Some((10, Some(0))))?;
+        let mut area = [0; LONGEST];
+        let n = write(HUT_SENDS, &Frame::<Order>::Bare { ack: 7 }, &mut area)?;
+        check_eq(n, 14)?;
+        let short = hear::<Order>(HUT_SENDS, &area[0..13]);
+        check_eq(short.err().ok_or("heard")?.number(), 10)?;
+        area[13] ^= 1;
+        let wrong = hear::<Order>(HUT_SENDS, &area[0..14]).err().ok_or("heard")?;
+        check_eq((wrong.number(), wrong.place()), (12, Some(12)))
     }
 }

@@ -22,11 +22,18 @@ use Rattle.frame.specs.declared.Side.the-variants.{Mast, Hut}
 
 -- frames of one side, with cycles of 8
 abbrev pub from : Side → Format
-from side = record { sender = side; acks = 8; numbers = 8 }
+from side = record { sender = side; cycles = record { ack = 8; number = 8 } }
 
 -- a reading whose humidity is n tenths of a percent, and all else 0
 abbrev pub humid : ℕ → Reading
 humid n = record { time = 0; height = pos 0; temperature = pos 0; humidity = n; pressure = 0 }
+
+-- the bytes of case I, and those of case J
+abbrev pub bareBytes : List ℕ
+bareBytes = 0x4D ∷ 0x48 ∷ 0x4C ∷ 0x00 ∷ 0x01 ∷ 0x01 ∷ 0x02 ∷ 0x00 ∷ 0x01 ∷ 0x00 ∷ 0x00 ∷ 0x00 ∷ 0x62 ∷ 0xB6 ∷ []
+
+abbrev pub noteBytes : List ℕ
+noteBytes = 0x4D ∷ 0x48 ∷ 0x4C ∷ 0x00 ∷ 0x01 ∷ 0x02 ∷ 0x02 ∷ 0x00 ∷ 0x01 ∷ 0x00 ∷ 0x00 ∷ 0x05 ∷ 0x03 ∷ 0x00 ∷ 0x00 ∷ 0x00 ∷ 0x07 ∷ 0x58 ∷ 0xB0 ∷ []
 
 -- the example of RFC 1071, whose sum is ddf2
 abbrev pub rfcBytes : List ℕ
@@ -34,9 +41,11 @@ rfcBytes = 0x00 ∷ 0x01 ∷ 0xf2 ∷ 0x03 ∷ 0xf4 ∷ 0xf5 ∷ 0xf6 ∷ 0xf7 �
 
 pub record Worked : Type 0 where
   -- I: the hut's bare frame with acknowledgement 1
-  pub caseI : bytesOf orderCoding (from Hut) (Bare 1) ≡ 0x4D ∷ 0x48 ∷ 0x4C ∷ 0x00 ∷ 0x01 ∷ 0x01 ∷ 0x02 ∷ 0x00 ∷ 0x01 ∷ 0x00 ∷ 0x00 ∷ 0x00 ∷ 0x62 ∷ 0xB6 ∷ []
+  pub caseI-written : bytesOf orderCoding (from Hut) (Bare 1) ≡ bareBytes
+  pub caseI-heard : hearFrom orderCoding (from Hut) bareBytes ≡ Ok (Bare 1)
   -- J: the hut's frame with note 7, acknowledgement 1 and number 0
-  pub caseJ : bytesOf orderCoding (from Hut) (Laden 1 0 (Note 7)) ≡ 0x4D ∷ 0x48 ∷ 0x4C ∷ 0x00 ∷ 0x01 ∷ 0x02 ∷ 0x02 ∷ 0x00 ∷ 0x01 ∷ 0x00 ∷ 0x00 ∷ 0x05 ∷ 0x03 ∷ 0x00 ∷ 0x00 ∷ 0x00 ∷ 0x07 ∷ 0x58 ∷ 0xB0 ∷ []
+  pub caseJ-written : bytesOf orderCoding (from Hut) (Laden 1 0 (Note 7)) ≡ noteBytes
+  pub caseJ-heard : hearFrom orderCoding (from Hut) noteBytes ≡ Ok (Laden 1 0 (Note 7))
   -- K: humidity 1,000 is made; 1,001 is refused by 17, and in a frame by 15 at place 22
   pub caseK-made : madeFrom readingCoding (humid 1000) ≡ Ok (humid 1000)
   pub caseK-refused : madeFrom readingCoding (humid 1001) ≡ Err FieldOutOfRange

@@ -7,8 +7,10 @@ pub returns : need.returns
 unfolding frameBytes
 returns c =
     record {
-      caseI = refl;
-      caseJ = refl;
+      caseI-written = refl;
+      caseI-heard = refl;
+      caseJ-written = refl;
+      caseJ-heard = refl;
       caseK-made = refl;
       caseK-refused = refl;
       caseK-number = refl;

@@ -1,4 +1,5 @@
 use mathlib.Core.Path.{_≡_, sym, ap, _∙_}
+use borrow.Author.Needs.{needs}
 use lib.ListN.{length, take}
 use Rattle.std.specs.declared.option.Option.the-variants.{None}
 use Rattle.std.specs.declared.result.Result.the-variants.{Ok}
@@ -13,7 +14,7 @@ returns g c =
     let kind = g .Self·Kind .coding in
     let e = c .args .self .now in
     let bytes = kind .written e in
-    let fine : faultOf kind e ≡ None = sym (c .in-rest .ensures tt) in
+    let fine : faultOf kind e ≡ None = search needs in
     let size : c .width .result ≡ length bytes = c .width .ensures ∙ sym (g .Self·Kind·met .exact e) in
     let front = ap (take (c .width .result)) (c .lay-out .ensures) ∙ take-front _ bytes (c .args .area .now) (sym size) in
     record {
