@@ -50,56 +50,21 @@ fn written_as(frame: Frame<Order>, bytes: &[u8]) -> bool {
 
 // I: the hut's bare frame with acknowledgement 1.
 fn bare_frame() -> bool {
-    written_as(
-        Frame::Bare { ack: 1 },
-        &[
-            0x4D,
-            0x48,
-            0x4C,
-            0x00,
-            0x01,
-            0x01,
-            0x02,
-            0x00,
-            0x01,
-            0x00,
-            0x00,
-            0x00,
-            0x62,
-            0xB6,
-        ],
-    )
+    let frame = Frame::Bare { ack: 1 };
+    written_as(frame, b"MHL\x00\x01\x01\x02\x00\x01\x00\x00\x00\x62\xB6")
 }
 
 // J: the hut's frame with note 7, acknowledgement 1 and number 0.
 fn note_frame() -> bool {
+    let element = Order::Note { number: 7 };
+    let frame = Frame::Laden {
+        ack: 1,
+        number: 0,
+        element,
+    };
     written_as(
-        Frame::Laden {
-            ack: 1,
-            number: 0,
-            element: Order::Note { number: 7 },
-        },
-        &[
-            0x4D,
-            0x48,
-            0x4C,
-            0x00,
-            0x01,
-            0x02,
-            0x02,
-            0x00,
-            0x01,
-            0x00,
-            0x00,
-            0x05,
-            0x03,
-            0x00,
-            0x00,
-            0x00,
-            0x07,
-            0x58,
-            0xB0,
-        ],
+        frame,
+        b"MHL\x00\x01\x02\x02\x00\x01\x00\x00\x05\x03\x00\x00\x00\x07\x58\xB0",
     )
 }
 
