@@ -63,7 +63,7 @@ pub trait Kind: Copy {
     fn lay_out(&self, area: &mut [u8; WIDEST])
         ensures { λ _. ⌜ now (area .exit) ≡ front (coding .written (now (self .entry))) (now (area .entry)) ⌝ };
 
-    // The value that bytes hold, in range or not; none where they are not as many as the kind is wide, or have a tag that is none.
+    // The value that bytes hold, in range or not; none where they are not as many as the kind is wide, or their tag is unknown.
     fn value(bytes: &[u8]) -> Option<Self>
         ensures { λ r. ⌜ r ≡ coding .value (now (bytes .entry)) ⌝ };
 

@@ -11,9 +11,9 @@ use Rattle.std.specs.Results.{isOk}
 use Rattle.std.specs.declared.result.Result.{Result}
 use Rattle.std.specs.declared.result.Result.the-variants.{Ok, Err}
 use Rattle.std.specs.shelf.Lists.{All}
-use Rattle.std.proofs.shelf.Elements.{all-getD}
 use Rattle.std.proofs.shelf.Tests.{cases-eq, cases-lt}
 use Rattle.bytes.proofs.Changes.{check-changed}
+use Rattle.bytes.proofs.Numbers.{byte-at}
 use Rattle.bytes.specs.Checks.{check}
 use Rattle.bytes.specs.Numbers.{number16}
 use Rattle.refusal.specs.declared.Refusal.{Refusal}
@@ -30,7 +30,7 @@ module _ (bs : List ℕ) (n i v : ℕ) (all : All (λ b. b < 256) bs) (long : le
   ds = set bs i v
 
   byte : (k : ℕ) → k < length bs → getD bs k 0 < 256
-  byte k h = all-getD (λ b. b < 256) bs k 0 h all
+  byte = byte-at bs all
 
   -- one of the bytes that the check covers: another check
   covered : i < n → check (take n bs) ≡ number16 (getD bs n 0) (getD bs (n + 1) 0) → check (take n ds) ≡ number16 (getD ds n 0) (getD ds (n + 1) 0) → ⊥

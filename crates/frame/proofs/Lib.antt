@@ -1,9 +1,9 @@
 pub mod Damages
 pub mod Hears
 pub mod Middles
-pub mod Orders
 pub mod Parts
 pub mod ReadLaws
 pub mod Seals
+pub mod Smallest
 pub mod Trips
 pub mod Writes

@@ -14,7 +14,7 @@ use Rattle.frame.specs.Trips.{OneByteSafe, OnlyWritten}
 use Rattle.frame.specs.declared.Format.{Format}
 use Rattle.frame.specs.declared.Frame.{Frame}
 use Rattle.frame.proofs.Damages.{safe-read}
-use Rattle.frame.proofs.Orders.{smallest-first}
+use Rattle.frame.proofs.Smallest.{smallest-first}
 use Rattle.frame.proofs.Trips.{only-read}
 
 pub read-laws : {A : Type 0} (format : Format) (w : ℕ) (bs : List ℕ) (f : A → List ℕ) (r : Result (Frame A) Refusal) → All (λ b. b < 256) bs → answered f r ≡ readFrom format w bs → OnlyWritten format w bs (answered f r) × (isOk r ≡ true → OneByteSafe format w bs) × SmallestFirst format w bs r

@@ -7,12 +7,11 @@ use native.Mathlib.Omega.{arith}
 use lib.Dec.{ltb}
 use lib.ListN.{length, take, drop, getD, length-append}
 use Rattle.std.specs.shelf.Lists.{All}
-use Rattle.std.proofs.shelf.Elements.{all-getD}
 use Rattle.std.proofs.shelf.Lists.{take-at, getD-at, getD-append-add, take-append-drop, drop-more, drop-all}
 use Rattle.std.proofs.shelf.Tests.{and-parts, and-from, eq-eqb, eqb-true}
 use Rattle.std.proofs.shelf.Ways.{tells}
 use Rattle.bytes.proofs.Fronts.{take-front, front-again}
-use Rattle.bytes.proofs.Numbers.{bytes-number16}
+use Rattle.bytes.proofs.Numbers.{byte-at, bytes-number16, number-bytes16}
 use Rattle.bytes.specs.Areas.{front}
 use Rattle.bytes.specs.Checks.{check}
 use Rattle.bytes.specs.Numbers.{bytes16, number16}
@@ -29,9 +28,6 @@ front-sealed n old xs ys e p =
 -- how many bytes a header, what follows it and the check are
 pub length-sealed : (h : Header) (bs : List ℕ) → length (sealedBytes (headerBytes h ++ bs)) ≡ 14 + length bs
 length-sealed h bs = simp length-append (omega arith)
-
-pub number-bytes16 : (n : ℕ) → n < 65536 → number16 (n / 256 % 256) (n % 256) ≡ n
-number-bytes16 n h = omega arith
 
 -- bytes with their check behind them are sealed
 pub sealed-back : (bs : List ℕ) → isSealed (sealedBytes bs) ≡ true
@@ -60,8 +56,8 @@ pub sealed-whole : (bs : List ℕ) → All (λ b. b < 256) bs → 2 ≤ length b
 sealed-whole bs all l s =
     let n = length bs - 2 in
     let c = sealed-check n bs (omega arith) s in
-    let a = all-getD (λ b. b < 256) bs n 0 (omega arith) all in
-    let b = all-getD (λ b. b < 256) bs (n + 1) 0 (omega arith) all in
+    let a = byte-at bs all n (omega arith) in
+    let b = byte-at bs all (n + 1) (omega arith) in
     let last : drop n bs ≡ getD bs n 0 ∷ getD bs (n + 1) 0 ∷ [] =
     drop-more bs n 0 (omega arith) ∙ ap (λ t. getD bs n 0 ∷ t) (drop-more bs (n + 1) 0 (omega arith) ∙ ap (λ t. getD bs (n + 1) 0 ∷ t) (drop-all (n + 1 + 1) bs (omega arith))) in
     ap (λ m. take n bs ++ bytes16 m) c ∙ ap (λ t. take n bs ++ t) (bytes-number16 _ _ a b ∙ sym last) ∙ take-append-drop n bs

@@ -15,7 +15,7 @@ use Rattle.std.proofs.shelf.Lists.{nil-from-length, take-at}
 use Rattle.std.proofs.shelf.Tests.{or-parts, ltb-false, not-false}
 use Rattle.std.proofs.shelf.Ways.{tells}
 use Rattle.bytes.proofs.Heads.{take-heads}
-use Rattle.bytes.proofs.Numbers.{part16}
+use Rattle.bytes.proofs.Numbers.{number-bytes16, part16}
 use Rattle.bytes.specs.Checks.{check}
 use Rattle.bytes.specs.Numbers.{bytes16}
 use Rattle.refusal.specs.Refusals.{unless}
@@ -29,7 +29,7 @@ use Rattle.frame.specs.declared.Frame.{Frame}
 use Rattle.frame.specs.declared.Frame.the-variants.{Bare, Laden}
 use Rattle.frame.specs.declared.Side.{Side}
 use Rattle.frame.specs.declared.header.Header.{Header}
-use Rattle.frame.proofs.Seals.{length-sealed, number-bytes16, sealed-back, sealed-whole}
+use Rattle.frame.proofs.Seals.{length-sealed, sealed-back, sealed-whole}
 
 -- three tests that did not refuse
 through : {A : Type 0} (a b c : Bool) (x y z : Refusal) (r : Result A Refusal) → a ≡ false → b ≡ true → c ≡ true → cond a (Err x) (cond (not b) (Err y) (cond (not c) (Err z) r)) ≡ r

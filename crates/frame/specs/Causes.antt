@@ -75,7 +75,8 @@ Ascending [] = Unit {0}
 Ascending (c ∷ []) = Unit {0}
 Ascending (c ∷ d ∷ cs) = (before (c .refusal) (d .refusal) ≡ true) × Ascending (d ∷ cs)
 
--- of all causes that apply, the answer tells the one with the smallest number, and of these the one with the lowest place
+-- the answer tells the first cause that applies, and each cause in the table comes before the next by its number and then by its
+-- place: so no cause that applies has a smaller number, or the same number and a lower place
 pub record SmallestFirst {A : Type 0} (format : Format) (width : ℕ) (bs : List ℕ) (r : Result A Refusal) : Type 0 where
   pub first : refusalIn r ≡ firstCause (causes format width bs)
   pub ascending : Ascending (causes format width bs)

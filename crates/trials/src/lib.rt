@@ -1,4 +1,4 @@
-// Tests by examples: the ends of each field's range, the check against a plain sum, frames of each length, and frames with one
+// Tests by examples: the ends of each field's range, the check against a plain sum, frames at the ends of their lengths, and frames with one
 // thing wrong. The code is proved to answer what the definitions say; these hold both against values worked out by hand.
 #[cfg(test)]
 mod tests {
@@ -206,7 +206,7 @@ mod tests {
     }
 
     #[test]
-    fn frames_of_each_length() -> Result<(), Fail> {
+    fn frames_at_the_ends_of_their_lengths() -> Result<(), Fail> {
         check_eq(heard_of_length(14), None)?;
         check_eq(heard_of_length(15), Some((13, Some(11))))?;
         check_eq(heard_of_length(32), Some((13, Some(11))))?;
