@@ -5,6 +5,7 @@ use mathlib.Core.Bool.{cond}
 use mathlib.Core.List.{List, [], _∷_, _++_}
 use lib.Dec.{ltb}
 use lib.ListN.{length}
+use Rattle.std.specs.Options.{orOther}
 use Rattle.std.specs.declared.option.Option.{Option}
 use Rattle.std.specs.declared.option.Option.the-variants.{Some, None}
 use Rattle.std.specs.declared.result.Result.{Result}
@@ -58,11 +59,14 @@ module _ {A B : Type 0} (f : A → B) where
   answered (Ok x) = Ok (mapped x)
   answered (Err e) = Err e
 
--- the refusal of a frame whose acknowledgement or number is not below its cycle
+-- the refusal of a number, at its place, that is not below its cycle
+abbrev pub pastAt : ℕ → ℕ → ℕ → Option Refusal
+pastAt place number cycle = cond (ltb number cycle) None (Some (NumberPastCycle place))
+
+-- the refusal of a frame whose acknowledgement or number is not below its cycle; the acknowledgement is told first
 abbrev pub pastCycle : {E : Type 0} → Format → Frame E → Option Refusal
-pastCycle format (Bare ack) = cond (ltb ack (format .cycles .ack)) None (Some (NumberPastCycle 7))
-pastCycle format (Laden ack number element) =
-    cond (ltb ack (format .cycles .ack)) (cond (ltb number (format .cycles .number)) None (Some (NumberPastCycle 9))) (Some (NumberPastCycle 7))
+pastCycle format (Bare ack) = pastAt 7 ack (format .cycles .ack)
+pastCycle format (Laden ack number element) = orOther (pastAt 7 ack (format .cycles .ack)) (pastAt 9 number (format .cycles .number))
 
 -- a frame with an element that is so wide, or with none
 abbrev pub Wide : ℕ → Frame (List ℕ) → Type 0

@@ -1,8 +1,9 @@
 -- What writing a frame answers, and what the area then holds.
 use Prim.Native.Nat.{ℕ}
 use mathlib.Core.List.{List}
+use Rattle.std.specs.Options.{orOther}
 use Rattle.std.specs.declared.option.Option.{Option}
-use Rattle.std.specs.declared.option.Option.the-variants.{Some, None}
+use Rattle.std.specs.declared.option.Option.the-variants.{None}
 use Rattle.std.specs.declared.result.Result.{Result}
 use Rattle.bytes.specs.Areas.{writtenUnless}
 use Rattle.element.specs.Kinds.{Coding, faultOf, outOfRange}
@@ -12,11 +13,6 @@ use Rattle.frame.specs.declared.Format.{Format}
 use Rattle.frame.specs.declared.Frame.{Frame}
 use Rattle.frame.specs.declared.Frame.the-variants.{Bare, Laden}
 
--- the first of two refusals
-abbrev pub orElse : Option Refusal → Option Refusal → Option Refusal
-orElse None r = r
-orElse (Some r) s = Some r
-
 module _ {K : Type 0} (kind : Coding K) where
   -- the refusal of a frame whose element has a field out of range
   abbrev pub unfit : Frame K → Option Refusal
@@ -25,7 +21,7 @@ module _ {K : Type 0} (kind : Coding K) where
 
   -- why a frame is not written, if it is not
   abbrev pub refusalOf : Format → Frame K → Option Refusal
-  refusalOf format f = orElse (pastCycle format f) (unfit f)
+  refusalOf format f = orOther (pastCycle format f) (unfit f)
 
   -- the bytes of a frame with an element of the kind
   abbrev pub bytesOf : Format → Frame K → List ℕ

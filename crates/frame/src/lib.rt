@@ -2,7 +2,7 @@
 //
 // A frame says what its sender has heard so far, by an acknowledgement, and may carry one element with its number.
 ghost use mathlib.Core.Path.{_≡_};
-ghost use Rattle.frame.specs.Formats.{pastCycle};
+ghost use Rattle.frame.specs.Formats.{pastAt, pastCycle};
 ghost use Rattle.refusal.specs.Refusals.{unless};
 use refusal::Refusal;
 
@@ -45,27 +45,39 @@ pub enum Frame<E> {
     Laden { ack: u16, number: u16, element: E },
 }
 
+// The refusal of a number, at its place, that is not below its cycle.
+fn past(place: usize, number: u16, cycle: u16) -> Option<Refusal>
+    ensures { λ r. ⌜ r ≡ pastAt place number cycle ⌝ }
+{
+    if number < cycle {
+        return None;
+    }
+    Some(Refusal::NumberPastCycle { place })
+}
+
 impl<E> Frame<E> {
-    // Refuses a frame whose acknowledgement, at place 7, or number, at place 9, is not below its cycle.
-    fn on_cycle(&self, format: Format) -> Result<(), Refusal>
-        ensures { λ r. ⌜ r ≡ unless tt (pastCycle format (now (self .entry))) ⌝ }
+    // The refusal of a frame whose acknowledgement, at place 7, or number, at place 9, is not below its cycle.
+    fn past_cycle(&self, format: Format) -> Option<Refusal>
+        ensures { λ r. ⌜ r ≡ pastCycle format (now (self .entry)) ⌝ }
     {
-        let (ack, number) = match self {
-            Frame::Bare { ack } => (*ack, None),
+        let cycles = format.cycles;
+        match self {
+            Frame::Bare { ack } => past(7, *ack, cycles.ack),
             Frame::Laden {
                 ack,
                 number,
                 element: _,
-            } => (*ack, Some(*number)),
-        };
-        if ack >= format.cycles.ack {
-            return Err(Refusal::NumberPastCycle { place: 7 });
+            } => past(7, *ack, cycles.ack).or(past(9, *number, cycles.number)),
         }
-        match number {
-            Some(number) if number >= format.cycles.number => Err(Refusal::NumberPastCycle {
-                place: 9,
-            }),
-            _ => Ok(()),
+    }
+
+    // Refuses a frame with a number that is not below its cycle.
+    fn on_cycle(&self, format: Format) -> Result<(), Refusal>
+        ensures { λ r. ⌜ r ≡ unless tt (pastCycle format (now (self .entry))) ⌝ }
+    {
+        match self.past_cycle(format) {
+            Some(refusal) => Err(refusal),
+            None => Ok(()),
         }
     }
 }
