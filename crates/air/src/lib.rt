@@ -3,6 +3,8 @@
 //
 // An air means a list of waiting frames, oldest first, with a capacity and a bound; places in it count from 0. How an air keeps
 // its frames is its own affair: callers rely on the list alone.
+#![tactic(auto)]
+
 ghost use Rattle.std.specs.Prelude.{◌≡◌, length};
 ghost use Rattle.air.specs.Waiting.{AirState};
 ghost use Rattle.air.specs.Steps.{Bytes, Sound, count_at, lose_step, put_step, repeat_step, take_step};

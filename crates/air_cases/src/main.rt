@@ -1,4 +1,6 @@
 // Flies case L on each air, and prints a line for all of them, its letter, a space, and `holds` or `off`, and then one for each.
+#![tactic(auto)]
+
 use air::{Air, Gauge, Lent};
 use octets::LONGEST;
 use pool::Pool;

@@ -1,4 +1,6 @@
 // One reading on its way from the mast to the hut, told in plain text. What is told is computed by the library's calls.
+#![tactic(auto)]
+
 use element::Kind;
 use element::reading::Reading;
 use frame::{Cycles, Format, Frame, LONGEST, Side, hear, write};

@@ -1,4 +1,6 @@
 // Flies the worked cases through the library's calls, and prints a line for each: its letter, a space, and `holds` or `off`.
+#![tactic(auto)]
+
 use element::Kind;
 use element::order::Order;
 use element::reading::Reading;

@@ -1,4 +1,6 @@
 // Kinds of element: what a link carries, which values are allowed, and their bytes.
+#![tactic(auto)]
+
 ghost use Rattle.std.specs.Prelude.{◌≡◌, ℕ, ◌<◌, ◌≤◌, List, length, take, Some, None, Ok, Err};
 ghost use Rattle.std.specs.List.{AllByRecursion as All};
 ghost use Rattle.octets.specs.Areas.{front};

@@ -1,6 +1,8 @@
 // Frames: what one end of a link sends to the other, as bytes.
 //
 // A frame says what its sender has heard so far, by an acknowledgement, and may carry one element with its number.
+#![tactic(auto)]
+
 ghost use Rattle.std.specs.Prelude.{◌≡◌};
 ghost use Rattle.frame.specs.Formats.{past_at, past_cycle};
 ghost use Rattle.refusal.specs.Refusals.{unless};

@@ -1,4 +1,6 @@
 // Bytes: numbers with their highest byte first, areas that are written from the front, and the check of RFC 1071.
+#![tactic(auto)]
+
 ghost use Rattle.std.specs.Prelude.{◌≡◌};
 ghost use Rattle.octets.specs.Checks.{check, ones_sum};
 ghost use Rattle.octets.specs.Numbers.{number16};

@@ -1,4 +1,6 @@
 // Why a call says no: one enum for the calls of all crates. A call that refuses changes nothing.
+#![tactic(auto)]
+
 ghost use Rattle.std.specs.Prelude.{◌≡◌};
 ghost use Rattle.refusal.specs.Refusals.{number_of, place_of, reason_of, shown_of};
 

@@ -1,5 +1,7 @@
 // Readings on their way through an air whose relay loses a frame, lets a young one pass an old one and repeats one, told in plain
 // text. What is told is computed by the library's calls.
+#![tactic(auto)]
+
 use air::{Air, Gauge, most_overtaken};
 use element::Kind;
 use element::reading::Reading;

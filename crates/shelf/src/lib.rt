@@ -1,4 +1,6 @@
 // The shelf: an air whose frames lie in memory that the caller lends.
+#![tactic(auto)]
+
 ghost use Rattle.std.specs.Prelude.{◌≡◌, ◌≤◌, length};
 ghost use Rattle.air.specs.Places.{EachFine};
 ghost use Rattle.shelf.specs.Slots.{frames_in, slot_count};

@@ -1,4 +1,6 @@
 // The tight air: any other air, held to a bound that may be smaller than its own.
+#![tactic(auto)]
+
 ghost use Rattle.std.specs.Prelude.{◌≡◌, min};
 ghost use Rattle.air.specs.Waiting.{empty_air};
 ghost use Rattle.tight.specs.SameList.{SameList};

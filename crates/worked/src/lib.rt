@@ -1,4 +1,6 @@
 // Worked examples, shown of the definitions that the contracts of the other crates rest on.
+#![tactic(auto)]
+
 ghost use Rattle.std.specs.Prelude.{◌≡◌, codes};
 ghost use Rattle.worked.specs.Worked.{Worked};
 

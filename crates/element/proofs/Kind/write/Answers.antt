@@ -12,8 +12,8 @@ returns g c =
     let bytes = kind.written e in
     let fine : fault_of kind e ≡ None = search rules in
     let size : c.width.result ≡ length bytes = c.width.ensures ∙ sym (g.met.Self.Kind.exact e) in
-    let front = ap (take c.width.result) c.lay-out.ensures ∙ take-front _ bytes c.args.area.now (sym size) in
+    let front = ap (take c.width.result) c.lay_out.ensures ∙ take-front _ bytes c.args.area.now (sym size) in
     record {
-      answer = (λ i. (Ok (size i), c.lay-out.ensures i)) ∙ sym (ap (λ o. written_unless (out_of_range o) bytes c.args.area.now) fine);
+      answer = (λ i. (Ok (size i), c.lay_out.ensures i)) ∙ sym (ap (λ o. written_unless (out_of_range o) bytes c.args.area.now) fine);
       back = ap (element_from kind) front ∙ reads_back kind e fine (g.met.Self.Kind.returned e fine);
     }
