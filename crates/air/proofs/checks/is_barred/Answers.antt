@@ -15,4 +15,4 @@ pub loop-i-preserved : goal.loop-i-preserved
 loop-i-preserved g c =
     let a = g.A.Gauge.state c.args.air.now in
     let i = c.loop-i.i in
-    barred_more a.bound i a.waiting (omega arith) (eqb-false (count_of (slice_get a.waiting i)) a.bound (sym c.if-is-at-bound.ensures)) c.loop-i.invariant
+    barred_more a.bound i a.waiting (omega arith) (eqb-false (count_of (slice_get a.waiting i)) a.bound (sym c.if-is_at_bound.ensures)) c.loop-i.invariant

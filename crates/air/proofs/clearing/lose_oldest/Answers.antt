@@ -10,13 +10,13 @@ loop-i-preserved g c =
     ap (λ t. t.1) c.lose.ensures
     ∙ lose_oldest (g.A.Gauge.state c.loop-i.air)
     ∙ ap (λ a. with_waiting a (drop 1 a.waiting)) c.loop-i.invariant
-    ∙ ap (with_waiting was) (drop-drop 1 c.loop-i.-i was.waiting)
+    ∙ ap (with_waiting was) (drop-drop 1 c.loop-i._i was.waiting)
 
 pub returns : goal.returns
 returns g c =
     let was = g.A.Gauge.state c.args.air.now in
-    let done : c.loop-i.-i ≡ c.args.n = omega arith in
+    let done : c.loop-i._i ≡ c.args.n = omega arith in
     record {
       rest = c.loop-i.invariant ∙ ap (λ i. with_waiting was (drop i was.waiting)) done;
-      all = λ few. c.loop-i.invariant ∙ ap (with_waiting was) (drop_all c.loop-i.-i was.waiting (omega arith));
+      all = λ few. c.loop-i.invariant ∙ ap (with_waiting was) (drop_all c.loop-i._i was.waiting (omega arith));
     }
