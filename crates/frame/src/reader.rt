@@ -130,10 +130,10 @@ fn parts<'a>(bytes: &'a [u8]) -> Result<(Header, &'a [u8]), Refusal>
 
 // The frame in the bytes heard, for a kind K of element that is not looked into; or why they are none.
 pub fn read<'a, K: Kind>(format: Format, bytes: &'a [u8]) -> Result<Frame<&'a [u8]>, Refusal>
-    ensures answer { answered (λ e. e.now) result ≡ read_from format coding.width bytes.now }
-    ensures only { OnlyWritten format coding.width bytes.now (answered (λ e. e.now) result) }
-    ensures safe { is_ok result ≡ true → OneByteSafe format coding.width bytes.now }
-    ensures smallest { SmallestFirst format coding.width bytes.now result }
+    ensures answer { answered (λ e. e.now) result ≡ read_from format K.coding.width bytes.now }
+    ensures only { OnlyWritten format K.coding.width bytes.now (answered (λ e. e.now) result) }
+    ensures safe { is_ok result ≡ true → OneByteSafe format K.coding.width bytes.now }
+    ensures smallest { SmallestFirst format K.coding.width bytes.now result }
 {
     let (header, element) = parts(bytes)?;
     if !sealed(bytes) {
@@ -146,9 +146,9 @@ pub fn read<'a, K: Kind>(format: Format, bytes: &'a [u8]) -> Result<Frame<&'a [u
 
 // What the bytes heard say, with the element of the kind K; or why they are refused.
 pub fn hear<K: Kind>(format: Format, bytes: &[u8]) -> Result<Frame<K>, Refusal>
-    ensures answer { result ≡ hear_from coding format bytes.now }
-    ensures only { OnlyHeard coding format bytes.now result }
-    ensures safe { is_ok result ≡ true → OneByteSafe format coding.width bytes.now }
+    ensures answer { result ≡ hear_from K.coding format bytes.now }
+    ensures only { OnlyHeard K.coding format bytes.now result }
+    ensures safe { is_ok result ≡ true → OneByteSafe format K.coding.width bytes.now }
 {
     match read::<K>(format, bytes)? {
         Frame::Bare { ack } => Ok(Frame::Bare { ack }),

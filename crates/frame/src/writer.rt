@@ -66,7 +66,7 @@ fn write_laden<K: Kind>(
     element: &K,
     area: &mut [u8; LONGEST],
 ) -> Result<usize, Refusal>
-    ensures { (result, area.new) ≡ written_unless (out_of_range (fault_of coding element.now)) (frame_bytes sender (Laden ack number (coding.written element.now))) area.old }
+    ensures { (result, area.new) ≡ written_unless (out_of_range (fault_of K.coding element.now)) (frame_bytes sender (Laden ack number (K.coding.written element.now))) area.old }
 {
     let mut bytes = [0; WIDEST];
     let width = element.write(&mut bytes)?;
@@ -86,7 +86,7 @@ fn write_frame<K: Kind>(
     frame: &Frame<K>,
     area: &mut [u8; LONGEST],
 ) -> Result<usize, Refusal>
-    ensures { (result, area.new) ≡ written_unless (unfit coding frame.now) (frame_bytes sender (mapped coding.written frame.now)) area.old }
+    ensures { (result, area.new) ≡ written_unless (unfit K.coding frame.now) (frame_bytes sender (mapped K.coding.written frame.now)) area.old }
 {
     match frame {
         Frame::Bare { ack } => Ok(write_bare(sender, *ack, area)),
@@ -105,9 +105,9 @@ fn write_on_cycle<K: Kind>(
     area: &mut [u8; LONGEST],
 ) -> Result<usize, Refusal>
     requires { past_cycle format frame.now ≡ None }
-    ensures answer { (result, area.new) ≡ written_unless (unfit coding frame.now) (bytes_of coding format frame.now) area.old }
+    ensures answer { (result, area.new) ≡ written_unless (unfit K.coding frame.now) (bytes_of K.coding format frame.now) area.old }
     ensures size { Sized result }
-    ensures heard { HeardBack coding format frame.now area.new result }
+    ensures heard { HeardBack K.coding format frame.now area.new result }
 {
     write_frame(format.sender, frame, area)
 }
@@ -118,9 +118,9 @@ pub fn write<K: Kind>(
     frame: &Frame<K>,
     area: &mut [u8; LONGEST],
 ) -> Result<usize, Refusal>
-    ensures answer { (result, area.new) ≡ write_into coding format frame.now area.old }
+    ensures answer { (result, area.new) ≡ write_into K.coding format frame.now area.old }
     ensures size { Sized result }
-    ensures heard { HeardBack coding format frame.now area.new result }
+    ensures heard { HeardBack K.coding format frame.now area.new result }
 {
     frame.on_cycle(format)?;
     write_on_cycle(format, frame, area)

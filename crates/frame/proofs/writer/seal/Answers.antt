@@ -9,5 +9,5 @@ returns c =
     let n = c.args.n in
     let xs = c.args.area.now in
     let whole : n - 0 ≡ n = omega arith in
-    let sum = c.check-of.ensures ∙ ap (λ k. check (take k xs)) whole in
-    c.append.ensures ∙ ap (λ z. front (take n xs ++ z) xs) (c.to-be-bytes-check.ensures ∙ ap bytes16 sum)
+    let sum = c.check_of.ensures ∙ ap (λ k. check (take k xs)) whole in
+    c.append.ensures ∙ ap (λ z. front (take n xs ++ z) xs) (c.to_be_bytes-check.ensures ∙ ap bytes16 sum)

@@ -8,5 +8,5 @@ pub returns : goal.returns
 unfolding frame_bytes
 returns c =
     let header : ℕ → Header = λ s. record { tag = 1; sender = s; ack = c.args.ack; number = 0; width = 0 } in
-    let area = c.write-sealed.ensures.area ∙ ap (λ s. front (sealed_bytes (header_bytes (header s))) c.args.area.now) c.sender-byte.ensures in
-    λ i. (Ok (c.write-sealed.ensures.size i), area i)
+    let area = c.write_sealed.ensures.area ∙ ap (λ s. front (sealed_bytes (header_bytes (header s))) c.args.area.now) c.sender_byte.ensures in
+    λ i. (Ok (c.write_sealed.ensures.size i), area i)

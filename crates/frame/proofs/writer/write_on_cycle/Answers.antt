@@ -4,7 +4,7 @@ use Rattle.frame.proofs.writer.write_on_cycle.Goals as goal
 
 pub returns : goal.returns
 returns g c =
-    let answer = c.write-frame.ensures in
+    let answer = c.write_frame.ensures in
     let laws = g.met.K.Kind in
     record {
       answer = answer;
