@@ -40,10 +40,15 @@ module _ (s : Shelf) (w : List ℕ) where
       changed s.used (overtaken k (frames_in s.used memory)) long (frames_overtaken k s.used memory w (omega arith) older younger)
 
   -- what is to hold of a shelf, by the air that its memory then means; the parts are those of the struct, in its order
-  pub kept : (used : ℕ) (a : AirState Bytes) → slot_state w used s.bound ≡ a → used ≤ a.capacity → EachFine s.bound a.waiting → (used ≤ slot_count w) × ((length (frames_in used w) ≡ used) × ((s.bound ≤ 255) × (EachFine s.bound (frames_in used w) × Unit {0})))
+  pub kept : (used : ℕ) (a : AirState Bytes) → slot_state w used s.bound ≡ a → used ≤ a.capacity → EachFine s.bound a.waiting → record {within : used ≤ slot_count w; listed : length (frames_in used w) ≡ used; small : s.bound ≤ 255; each : EachFine s.bound (frames_in used w)}
   kept used a is few each =
       let room = ap (λ b. b.capacity) is in
-      (omega arith, (length-map-range_with_len (frame_in w) 0 used, (s.small, (subst (EachFine s.bound) (sym (ap (λ b. b.waiting) is)) each, tt))))
+      record {
+        within = omega arith;
+        listed = length-map-range_with_len (frame_in w) 0 used;
+        small = s.small;
+        each = subst (EachFine s.bound) (sym (ap (λ b. b.waiting) is)) each;
+      }
 
 -- frame k waits in slot k
 pub waits_in : (s : Shelf) (k : ℕ) → place_refusal k (shelf_state s) ≡ None → slice_get (shelf_state s).waiting k ≡ Some (frame_in s.slots.memory.now k)

@@ -8,15 +8,15 @@ use Rattle.pool.specs.Pools.{pool_state}
 use Rattle.pool.proofs.TableLaws.{frames_fresh, kept}
 use Rattle.pool.proofs.Pool.append.Goals as goal
 
-pub invariant-of-self : goal.invariant-of-self
-invariant-of-self c =
+pub invariant_of-self : goal.invariant_of-self
+invariant_of-self c =
     let p = c.args.self.now in
     let bs = c.args.bytes.now in
     let e = c.holding.result in
     let ws = frames_in p.used p.table in
     let known = put_free bs (pool_state p) c.requires in
     let room = known.2 in
-    let fine = fine_fresh p.bound bs known.0 known.1 (λ i. omega (arith, c.type-inv.bytes i)) in
+    let fine = fine_fresh p.bound bs known.0 known.1 (λ i. omega (arith, c.type_inv.bytes i)) in
     kept p.bound (p.used + 1) (set p.table p.used e) (ws ++ (fresh bs ∷ [])) (frames_fresh p.used p.table e bs (omega arith) c.holding.ensures)
     (omega arith) (simp length-set p.long) p.small (each_push p.bound ws (fresh bs) p.each fine)
 

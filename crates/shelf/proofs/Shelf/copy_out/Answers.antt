@@ -4,4 +4,4 @@ use Rattle.shelf.proofs.Shelf.copy_out.Goals as goal
 pub returns : goal.returns
 returns c =
     let here = waits_in c.args.self.now c.args.k c.requires in
-    record { size = simp here c.copy-to.ensures.size; area = simp here c.copy-to.ensures.area }
+    record { size = simp here c.copy_to.ensures.size; area = simp here c.copy_to.ensures.area }

@@ -10,8 +10,8 @@ use Rattle.shelf.proofs.ShelfLaws.{kept, overtook}
 use Rattle.shelf.proofs.Shelf.raise_counts_before.Goals as goal
 
 -- before a place that is not barred, each count is below the bound, and so below 255
-pub raise-counts-requires : goal.raise-counts-requires
-raise-counts-requires c =
+pub raise_counts-requires : goal.raise_counts-requires
+raise_counts-requires c =
     let s = c.args.self.now in
     let k = c.args.k in
     let known = answer_free k (shelf_state s) c.requires in
@@ -23,12 +23,12 @@ raise-counts-requires c =
           omega (arith, ap (λ w. w.count) here);
     }
 
-pub invariant-of-self : goal.invariant-of-self
-invariant-of-self c =
+pub invariant_of-self : goal.invariant_of-self
+invariant_of-self c =
     let s = c.args.self.now in
-    let w = c.raise-counts.new.self.memory.now in
+    let w = c.raise_counts.new.self.memory.now in
     let k = c.args.k in
-    let after = c.raise-counts.ensures in
+    let after = c.raise_counts.ensures in
     let known = answer_free k (shelf_state s) c.requires in
     kept s w s.used (repeated k (shelf_state s)) (overtook s w k c.requires after.len after.older after.younger) (omega arith)
     (each_overtaken s.bound k (shelf_state s).waiting s.each known.1)
@@ -36,9 +36,9 @@ invariant-of-self c =
 pub returns : goal.returns
 returns c =
     let s = c.args.self.now in
-    let w = c.raise-counts.new.self.memory.now in
+    let w = c.raise_counts.new.self.memory.now in
     let k = c.args.k in
-    let after = c.raise-counts.ensures in
+    let after = c.raise_counts.ensures in
     let known = answer_free k (shelf_state s) c.requires in
     record {
       state = overtook s w k c.requires after.len after.older after.younger;

@@ -2,8 +2,8 @@ use Rattle.std.proofs.Common.{◌+◌, ◌*◌, ◌≤◌, length, get_or, ap, �
 use Rattle.shelf.proofs.SlotLaws.{older_more, younger_more}
 use Rattle.shelf.proofs.slots.Slots.raise_counts.Goals as goal
 
-pub overflow-add-self-in-loop-i : goal.overflow-add-self-in-loop-i
-overflow-add-self-in-loop-i c =
+pub overflow_add-self-in-loop-i : goal.overflow_add-self-in-loop-i
+overflow_add-self-in-loop-i c =
     let same = ap (λ w. w.count) (c.loop-i.invariant.2 c.loop-i.i (omega arith)) in
     let small = c.requires.small c.loop-i.i c.loop-i-test.true in
     simp c.start.ensures (omega arith)
