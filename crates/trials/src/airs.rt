@@ -46,10 +46,10 @@ fn three_counts<A: Air>(air: &A) -> (u8, u8, u8) {
 fn repeats<A: Air>(rt: &impl Abort, air: &mut A) {
     let mut area = [9; LONGEST];
     assert_eq!(rt; air.repeat(2, &mut area).ok(), Some(5));
-    assert_eq!(rt; &area[0..7], b"young\x09\x09");
+    assert_eq!(rt; &area[0..7], b"young\x09\x09".as_slice());
     assert_eq!(rt; three_counts(air), (1, 1, 0));
     assert_eq!(rt; air.repeat(1, &mut area).ok(), Some(3));
-    assert_eq!(rt; &area[0..7], b"midng\x09\x09");
+    assert_eq!(rt; &area[0..7], b"midng\x09\x09".as_slice());
     assert_eq!(rt; three_counts(air), (2, 1, 0));
     assert_eq!(rt; most_overtaken(air), 2);
 }
@@ -73,7 +73,7 @@ fn empties<A: Air>(rt: &impl Abort, air: &mut A) {
     assert_eq!(rt; air.take(1, &mut area).ok(), Some(5));
     assert_eq!(rt; three_counts(air), (2, 99, 99));
     assert_eq!(rt; air.take(0, &mut area).ok(), Some(3));
-    assert_eq!(rt; &area[0..7], b"midng\x09\x09");
+    assert_eq!(rt; &area[0..7], b"midng\x09\x09".as_slice());
     assert_eq!(rt; (most_overtaken(air), air.waiting()), (0, 0));
 }
 
@@ -147,7 +147,7 @@ fn tight_airs_start_empty(rt: HostRuntime) -> Result<(), Fail> {
     let mut area = [0; LONGEST];
     assert_eq!(rt; (pool.waiting(), pool.bound()), (1, 9));
     assert_eq!(rt; pool.take(0, &mut area)?, 5);
-    assert_eq!(rt; &area[0..5], b"after");
+    assert_eq!(rt; &area[0..5], b"after".as_slice());
     Ok(())
 }
 
