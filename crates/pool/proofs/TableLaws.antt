@@ -79,5 +79,5 @@ pub frames_raised : (k used : ℕ) (was now : List Entry) → k ≤ used → use
 frames_raised k used was now older within is = ap (frames_in used) is ∙ raised_frames k used was older within
 
 -- what is to hold of a pool, by the frames that its table then holds; the parts are those of the struct, in its order
-pub kept : (bound used : ℕ) (table : List Entry) (ws : List (Waiting Bytes)) → frames_in used table ≡ ws → used ≤ 16 → length table ≡ 16 → bound ≤ 255 → EachFine bound ws → record {within : used ≤ 16; long : length table ≡ 16; listed : length (frames_in used table) ≡ used; small : bound ≤ 255; each : EachFine bound (frames_in used table)}
+pub kept : (bound used : ℕ) (table : List Entry) (ws : List (Waiting Bytes)) → frames_in used table ≡ ws → used ≤ 16 → length table ≡ 16 → bound ≤ 255 → EachFine bound ws → record { within : used ≤ 16; long : length table ≡ 16; listed : length (frames_in used table) ≡ used; small : bound ≤ 255; each : EachFine bound (frames_in used table) }
 kept bound used table ws is few long small each = record { within = few; long = long; listed = length_frames used table (omega arith); small = small; each = subst (EachFine bound) (sym is) each }

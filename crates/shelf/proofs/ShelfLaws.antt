@@ -40,7 +40,7 @@ module _ (s : Shelf) (w : List ℕ) where
       changed s.used (overtaken k (frames_in s.used memory)) long (frames_overtaken k s.used memory w (omega arith) older younger)
 
   -- what is to hold of a shelf, by the air that its memory then means; the parts are those of the struct, in its order
-  pub kept : (used : ℕ) (a : AirState Bytes) → slot_state w used s.bound ≡ a → used ≤ a.capacity → EachFine s.bound a.waiting → record {within : used ≤ slot_count w; listed : length (frames_in used w) ≡ used; small : s.bound ≤ 255; each : EachFine s.bound (frames_in used w)}
+  pub kept : (used : ℕ) (a : AirState Bytes) → slot_state w used s.bound ≡ a → used ≤ a.capacity → EachFine s.bound a.waiting → record { within : used ≤ slot_count w; listed : length (frames_in used w) ≡ used; small : s.bound ≤ 255; each : EachFine s.bound (frames_in used w) }
   kept used a is few each =
       let room = ap (λ b. b.capacity) is in
       record {
