@@ -2,7 +2,7 @@
 use Rattle.std.proofs.Common.{◌≡◌, ℕ, zero, suc, ◌<◌, ◌≤◌, false, eqb, List, [], ◌∷◌, ◌++◌, length, get_or, refl, ap, arith}
 use Rattle.std.proofs.ByRecursion.{All-from_get_or, All-get_or, All-push}
 use Rattle.std.proofs.lemmas.Bool.{eqb-false, or_parts}
-use Rattle.std.specs.List.{AllByRecursion as All}
+use Rattle.std.specs.List.{AllByRecursion}
 use Rattle.air.proofs.Nth.{all_without}
 use Rattle.air.specs.Waiting.{Waiting, barred, fresh, overtaken, without}
 use Rattle.air.specs.Steps.{Bytes, Fine}
@@ -13,7 +13,7 @@ length-overtaken zero ws = refl
 length-overtaken (suc k) [] = refl
 length-overtaken (suc k) (w ∷ ws) = ap suc (length-overtaken k ws)
 
-all_overtaken : (bound k : ℕ) (ws : List (Waiting Bytes)) → All (Fine bound) ws → barred bound k ws ≡ false → All (Fine bound) (overtaken k ws)
+all_overtaken : (bound k : ℕ) (ws : List (Waiting Bytes)) → AllByRecursion (Fine bound) ws → barred bound k ws ≡ false → AllByRecursion (Fine bound) (overtaken k ws)
 all_overtaken bound zero ws all free = all
 all_overtaken bound (suc k) [] all free = tt
 all_overtaken bound (suc k) (w ∷ ws) all free =
@@ -26,10 +26,10 @@ pub fine_fresh : (bound : ℕ) (bs : Bytes) → 1 ≤ length bs → length bs �
 fine_fresh bound bs some few bytes = (some, few, bytes, omega arith)
 
 module _ (bound : ℕ) where
-  all_of : (ws : List (Waiting Bytes)) → EachFine bound ws → All (Fine bound) ws
+  all_of : (ws : List (Waiting Bytes)) → EachFine bound ws → AllByRecursion (Fine bound) ws
   all_of ws each = All-from_get_or (Fine bound) ws nothing each
 
-  each_of : (ws : List (Waiting Bytes)) → All (Fine bound) ws → EachFine bound ws
+  each_of : (ws : List (Waiting Bytes)) → AllByRecursion (Fine bound) ws → EachFine bound ws
   each_of ws all k at = All-get_or (Fine bound) ws k nothing at all
 
   pub each_push : (ws : List (Waiting Bytes)) (w : Waiting Bytes) → EachFine bound ws → Fine bound w → EachFine bound (ws ++ (w ∷ []))
@@ -42,7 +42,7 @@ module _ (bound : ℕ) where
   each_overtaken k ws each free = each_of (overtaken k ws) (all_overtaken bound k ws (all_of ws each) free)
 
 -- a frame that bars none is below the bound
-below : (bound k i : ℕ) (ws : List (Waiting Bytes)) → All (Fine bound) ws → barred bound k ws ≡ false → i < k → i < length ws → (get_or ws i nothing).count < bound
+below : (bound k i : ℕ) (ws : List (Waiting Bytes)) → AllByRecursion (Fine bound) ws → barred bound k ws ≡ false → i < k → i < length ws → (get_or ws i nothing).count < bound
 below bound k i [] all free before at = absurd (omega arith)
 below bound zero i (w ∷ ws) all free before at = absurd (omega arith)
 below bound (suc k) zero (w ∷ ws) all free before at =

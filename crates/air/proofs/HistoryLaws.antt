@@ -1,7 +1,7 @@
 -- The laws of histories: they hold at the start, no call breaks them, and so they hold after every history.
 use Rattle.std.proofs.Common.{◌≡◌, ℕ, ◌≤◌, List, [], ◌∷◌, length, Some, None, Option, refl, ap, ◌∙◌, subst, arith}
 use Rattle.std.specs.Result.{result_unwrap_or}
-use Rattle.std.specs.List.{AllByRecursion as All, slice_get}
+use Rattle.std.specs.List.{AllByRecursion, slice_get}
 use Rattle.octets.proofs.Fronts.{take-front}
 use Rattle.refusal.specs.declared.Refusal.{Refusal}
 use Rattle.air.specs.Waiting.{Waiting, AirState, joined, lost, repeated, taken}
@@ -101,7 +101,7 @@ always_lawful capacity bound h = lawful capacity bound (past capacity bound h) (
 -- where counts never rise, none is above the oldest
 oldest_most : (a : AirState Bytes) (ws : List (Waiting Bytes)) → a.waiting ≡ ws
     → ((j k : ℕ) (v w : Waiting Bytes) → j ≤ k → slice_get ws j ≡ Some v → slice_get ws k ≡ Some w → w.count ≤ v.count)
-    → All (λ w. w.count ≤ oldest_count a) ws
+    → AllByRecursion (λ w. w.count ≤ oldest_count a) ws
 oldest_most a [] is fall = tt
 oldest_most a (v ∷ ws) is fall =
     let here : oldest_count a ≡ v.count = ap (λ r. result_unwrap_or r 0) (count_at_lem 0 a (rw is (omega arith))) ∙ ap (λ xs. count_of (slice_get xs 0)) is in
@@ -112,4 +112,4 @@ pub oldest_at_most : (a : AirState Bytes) → AtMost (oldest_count a) a
 oldest_at_most a h e =
     let b = (past a.capacity a.bound h).air in
     let falling = (always_lawful a.capacity a.bound h).falling in
-    subst (λ x. All (λ w. w.count ≤ oldest_count x) x.waiting) e (oldest_most b b.waiting refl falling)
+    subst (λ x. AllByRecursion (λ w. w.count ≤ oldest_count x) x.waiting) e (oldest_most b b.waiting refl falling)

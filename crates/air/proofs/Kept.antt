@@ -1,6 +1,6 @@
 -- What holds of every past, by its parts, and that no step breaks it.
 use Rattle.std.proofs.Common.{◌≡◌, ℕ, ◌+◌, ◌<◌, ◌≤◌, false, cond, eqb, ltb, List, [], ◌∷◌, ◌++◌, length, get_or, Some, sym, refl, ap, ◌∙◌, inl, inr, arith}
-use Rattle.std.specs.List.{AllByRecursion as All, slice_get}
+use Rattle.std.specs.List.{AllByRecursion, slice_get}
 use Rattle.std.proofs.ByRecursion.{All-weaker}
 use Rattle.std.proofs.lemmas.List.{length_push}
 use Rattle.std.proofs.lemmas.Option.{slice_get-get_or}
@@ -24,7 +24,7 @@ pub record Row (bound : ℕ) (sent : List Bytes) (events : List Event) (s : ℕ)
 pub record Kept (bound : ℕ) (sent : List Bytes) (events : List Event) (ss : List ℕ) (ws : List (Waiting Bytes)) : Type 0 where
   pub rows : Rows (Row bound sent events) ss ws
   pub bounded : (s : ℕ) → overtakings s events ≤ bound
-  pub genuine : All (Genuine sent) events
+  pub genuine : AllByRecursion (Genuine sent) events
   pub present : Present events
   pub accounted : (s : ℕ) → occurrences s ss + departures s events ≡ cond (ltb s (length sent)) 1 0
 
@@ -98,7 +98,7 @@ module _ {bound : ℕ} {sent : List Bytes} {es : List Event} {ss : List ℕ} {ws
 
   -- the frame of place k departs by the newest event, which overtakes nothing: each frame is overtaken as often as before
   kept_departed : (k t : ℕ) (next : List Event) → slice_get ss k ≡ Some t → ((s : ℕ) → overtakings s next ≡ overtakings s es)
-      → ((s : ℕ) → departures s next ≡ cond (eqb s t) 1 0 + departures s es) → All (Genuine sent) next → Present next
+      → ((s : ℕ) → departures s next ≡ cond (eqb s t) 1 0 + departures s es) → AllByRecursion (Genuine sent) next → Present next
       → Kept bound sent es ss ws → Kept bound sent next (without k ss) (without k ws)
   kept_departed k t next here same more genuine present i =
       record {

@@ -1,6 +1,6 @@
 -- What stands at a place of a list.
 use Rattle.std.proofs.Common.{◌≡◌, ℕ, zero, suc, ◌<◌, List, [], ◌∷◌, ◌++◌, length, Some, None, refl, subst, arith}
-use Rattle.std.specs.List.{AllByRecursion as All, slice_get}
+use Rattle.std.specs.List.{AllByRecursion, slice_get}
 use Rattle.air.specs.Waiting.{without}
 
 module _ {X : Type 0} where
@@ -28,16 +28,16 @@ module _ {X : Type 0} where
 
   module _ (P : X → Type 0) where
     -- what holds of each holds at every place, and the other way round
-    pub all_nth : (k : ℕ) (xs : List X) (y : X) → slice_get xs k ≡ Some y → All P xs → P y
+    pub all_nth : (k : ℕ) (xs : List X) (y : X) → slice_get xs k ≡ Some y → AllByRecursion P xs → P y
     all_nth k [] y e h = absurd (none_some y e)
     all_nth zero (x ∷ xs) y e h = subst P (some_same x y e) h.0
     all_nth (suc k) (x ∷ xs) y e h = all_nth k xs y e h.1
 
-    pub all_from_nth : (xs : List X) → ((k : ℕ) (x : X) → slice_get xs k ≡ Some x → P x) → All P xs
+    pub all_from_nth : (xs : List X) → ((k : ℕ) (x : X) → slice_get xs k ≡ Some x → P x) → AllByRecursion P xs
     all_from_nth [] h = tt
     all_from_nth (x ∷ xs) h = (h 0 x refl, all_from_nth xs (λ k. h (suc k)))
 
-    pub all_without : (k : ℕ) (xs : List X) → All P xs → All P (without k xs)
+    pub all_without : (k : ℕ) (xs : List X) → AllByRecursion P xs → AllByRecursion P (without k xs)
     all_without k [] h = tt
     all_without zero (x ∷ xs) h = h.1
     all_without (suc k) (x ∷ xs) h = (h.0, all_without k xs h.1)

@@ -1,6 +1,6 @@
 -- Frames beside their serial numbers: two lists of one length, whose serial numbers rise.
 use Rattle.std.proofs.Common.{◌≡◌, ℕ, zero, suc, ◌<◌, ◌≤◌, false, eqb, List, [], ◌∷◌, ◌++◌, length, get_or, Some, sym, refl, ap, subst, inl, inr, arith}
-use Rattle.std.specs.List.{AllByRecursion as All, slice_get}
+use Rattle.std.specs.List.{AllByRecursion, slice_get}
 use Rattle.std.proofs.ByRecursion.{All-get_or, All-push}
 use Rattle.std.proofs.lemmas.Bool.{cases_eq, eqb-false, ne_eqb, or_parts}
 use Rattle.air.specs.Waiting.{Waiting, without, raised, overtaken, barred}
@@ -12,7 +12,7 @@ abbrev pub Rows : {X : Type 0} → (ℕ → X → Type 0) → List ℕ → List 
 Rows P [] [] = Unit {0}
 Rows P [] (x ∷ xs) = ⊥
 Rows P (s ∷ ss) [] = ⊥
-Rows P (s ∷ ss) (x ∷ xs) = P s x × All (λ t. s < t) ss × Rows P ss xs
+Rows P (s ∷ ss) (x ∷ xs) = P s x × AllByRecursion (λ t. s < t) ss × Rows P ss xs
 
 module _ {X : Type 0} (P : ℕ → X → Type 0) where
   pub rows_length : (ss : List ℕ) (xs : List X) → Rows P ss xs → length ss ≡ length xs
@@ -58,7 +58,7 @@ module _ {X : Type 0} (P : ℕ → X → Type 0) where
         (keep s x h.0, All-push (λ u. s < u) ss t h.1 (below s x h.0), rows_push t y keep below new ss xs h.2)
 
     -- rows that change nothing but what holds of each, where S holds of every serial number
-    rows_with : (S : ℕ → Type 0) → ((s : ℕ) (x : X) → P s x → S s → Q s x) → (ss : List ℕ) (xs : List X) → All S ss → Rows P ss xs → Rows Q ss xs
+    rows_with : (S : ℕ → Type 0) → ((s : ℕ) (x : X) → P s x → S s → Q s x) → (ss : List ℕ) (xs : List X) → AllByRecursion S ss → Rows P ss xs → Rows Q ss xs
     rows_with S keep [] [] a h = tt
     rows_with S keep [] (x ∷ xs) a h = absurd h
     rows_with S keep (s ∷ ss) [] a h = absurd h

@@ -1,6 +1,6 @@
 -- How often a serial number occurs, departs and is overtaken.
 use Rattle.std.proofs.Common.{◌≡◌, ℕ, zero, suc, ◌+◌, ◌<◌, ◌≤◌, cond, eqb, List, [], ◌∷◌, ◌++◌, length, Some, refl, arith}
-use Rattle.std.specs.List.{AllByRecursion as All, slice_get}
+use Rattle.std.specs.List.{AllByRecursion, slice_get}
 use Rattle.std.proofs.lemmas.Bool.{cond_both, eq-eqb, le-ltb}
 use Rattle.std.proofs.lemmas.Bool.Decides.{nat_tests}
 use Rattle.air.specs.Waiting.{without}
@@ -40,7 +40,7 @@ passes_none sent s l (was_lost t) g = refl
 passes_none sent s l (was_taken t bs) g = let below = nth_within sent t bs g in rw (le-ltb s t (omega arith))
 passes_none sent s l (was_repeated t bs) g = let below = nth_within sent t bs g in rw (le-ltb s t (omega arith))
 
-pub overtakings_none : (sent : List Bytes) (s : ℕ) → length sent ≤ s → (es : List Event) → All (Genuine sent) es → overtakings s es ≡ 0
+pub overtakings_none : (sent : List Bytes) (s : ℕ) → length sent ≤ s → (es : List Event) → AllByRecursion (Genuine sent) es → overtakings s es ≡ 0
 overtakings_none sent s l [] g = refl
 overtakings_none sent s l (e ∷ es) g =
     omega (arith, overtakings_none sent s l es g.1, passes_none sent s l e g.0, counted_at_most (departures s es) (passes s e))

@@ -3,7 +3,7 @@
 -- Two frames may have the same bytes. To tell them apart, the frames that were put are counted from 0 in the sequence of their puts, and a frame is
 -- known here by that serial number. No air keeps one.
 use Rattle.std.specs.Prelude.{◌≡◌, ℕ, ◌+◌, ◌<◌, ◌≤◌, cond, List, [], ◌∷◌, ◌++◌, length, take, Some, Ok, Err, Result, ◌==◌, nat_lt, slice_index_or}
-use Rattle.std.specs.List.{AllByRecursion as All, slice_get}
+use Rattle.std.specs.List.{AllByRecursion, slice_get}
 use Rattle.refusal.specs.declared.Refusal.{Refusal}
 use Rattle.air.specs.Waiting.{Waiting, AirState, empty_air, without}
 use Rattle.air.specs.Steps.{Bytes, put_step, lose_step, take_step, repeat_step}
@@ -119,7 +119,7 @@ pub record Lawful (capacity bound : ℕ) (p : Past) : Type 0 where
   -- no frame is overtaken more often than the bound
   pub bounded : (s : ℕ) → overtakings s p.events ≤ bound
   -- every answered frame is, byte for byte, one that was put
-  pub genuine : All (Genuine p.sent) p.events
+  pub genuine : AllByRecursion (Genuine p.sent) p.events
   -- a frame that has departed is not answered or lost again
   pub present : Present p.events
   -- a frame that was put waits at one place, or has departed once, lost or taken; no other frame waits or departs
@@ -140,4 +140,4 @@ AlwaysLawful = (capacity bound : ℕ) (h : List Call) → Lawful capacity bound 
 
 -- where a history led to this air, which was then made empty and changed by calls alone: no waiting frame has been overtaken more often than this
 abbrev pub AtMost : ℕ → AirState Bytes → Type 0
-AtMost most a = (h : List Call) → (past a.capacity a.bound h).air ≡ a → All (λ w. w.count ≤ most) a.waiting
+AtMost most a = (h : List Call) → (past a.capacity a.bound h).air ≡ a → AllByRecursion (λ w. w.count ≤ most) a.waiting

@@ -2,7 +2,7 @@
 use Rattle.std.specs.Prelude.{ℕ, ◌<◌, ◌≤◌, cond, ◌||◌, List, [], length, Some, None, Ok, Err, Option, Result, ◌==◌, nat_le, nat_lt, slice_index}
 use Rattle.std.specs.Option.{option_or}
 use Rattle.std.specs.Result.{result_unwrap_or}
-use Rattle.std.specs.List.{AllByRecursion as All, slice_get}
+use Rattle.std.specs.List.{AllByRecursion, slice_get}
 use Rattle.octets.specs.Areas.{front}
 use Rattle.refusal.specs.Refusals.{unless}
 use Rattle.refusal.specs.declared.Refusal.{Refusal}
@@ -19,7 +19,7 @@ Fine bound w = (1 ≤ length w.frame) × (length w.frame ≤ 32) × ((i : ℕ) �
 
 -- what holds of every air: it is within its capacity, its bound is a byte, and each waiting frame is fine
 abbrev pub Sound : AirState Bytes → Type 0
-Sound a = (length a.waiting ≤ a.capacity) × (a.bound ≤ 255) × All (Fine a.bound) a.waiting
+Sound a = (length a.waiting ≤ a.capacity) × (a.bound ≤ 255) × AllByRecursion (Fine a.bound) a.waiting
 
 -- why some bytes are no frame (9): there are none, or over 32
 abbrev pub size_refusal : Bytes → Option Refusal

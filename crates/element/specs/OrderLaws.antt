@@ -1,12 +1,12 @@
 -- Bytes that hold an order are the bytes of that order.
 use Rattle.std.specs.Prelude.{◌≡◌, ℕ, ◌<◌, List, [], ◌∷◌, Some}
 use Rattle.std.proofs.Common.{arith}
-use Rattle.std.specs.List.{AllByRecursion as All}
+use Rattle.std.specs.List.{AllByRecursion}
 use Rattle.std.proofs.lemmas.Bool.Decides.{nat_tests}
 use Rattle.element.specs.Orders.{order_written, order_value}
 use Rattle.element.specs.declared.order.Order.{Order}
 
-pub order_only : (bs : List ℕ) (e : Order) → All (λ b. b < 256) bs → order_value bs ≡ Some e → order_written e ≡ bs
+pub order_only : (bs : List ℕ) (e : Order) → AllByRecursion (λ b. b < 256) bs → order_value bs ≡ Some e → order_written e ≡ bs
 order_only [] e h r = grind arith
 order_only (t ∷ []) e h r = grind arith
 order_only (t ∷ a ∷ []) e h r = grind arith

@@ -2,7 +2,7 @@
 use Rattle.std.specs.Prelude.{◌≡◌, ℕ, ◌<◌, cond, List, length, Some, None, ◌==◌}
 use Rattle.std.proofs.Common.{sym, ap, ◌∙◌, arith}
 use Rattle.std.specs.Int.{w16, w32}
-use Rattle.std.specs.List.{AllByRecursion as All}
+use Rattle.std.specs.List.{AllByRecursion}
 use Rattle.std.proofs.lemmas.List.{take_all}
 use Rattle.std.proofs.lemmas.Int.{of_z-to_z}
 use Rattle.std.proofs.lemmas.Bool.Decides.{nat_tests}
@@ -19,7 +19,7 @@ held_by n bs v e h = grind (arith, nat_tests)
 spelled : (bs : List ℕ) → length bs ≡ 14 → heads 0 14 0 bs ≡ bs
 spelled bs l = sym (take_heads 0 14 0 bs (omega arith)) ∙ take_all 14 bs (omega arith)
 
-written_parts : (bs : List ℕ) → All (λ b. b < 256) bs → length bs ≡ 14 → reading_written (reading_parts bs) ≡ bs
+written_parts : (bs : List ℕ) → AllByRecursion (λ b. b < 256) bs → length bs ≡ 14 → reading_written (reading_parts bs) ≡ bs
 written_parts bs all l =
     let whole = spelled bs l in
     let time = part32 bs 0 all (omega arith) in
@@ -31,7 +31,7 @@ written_parts bs all l =
     let pressure = part16 bs 12 all (omega arith) in
     cc
 
-pub reading_only : (bs : List ℕ) (e : Reading) → All (λ b. b < 256) bs → reading_value bs ≡ Some e → reading_written e ≡ bs
+pub reading_only : (bs : List ℕ) (e : Reading) → AllByRecursion (λ b. b < 256) bs → reading_value bs ≡ Some e → reading_written e ≡ bs
 reading_only bs e all h =
     let held = held_by 14 bs (reading_parts bs) e h in
     ap reading_written (sym held.1) ∙ written_parts bs all held.0

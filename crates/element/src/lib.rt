@@ -2,7 +2,7 @@
 #![tactic(auto)]
 
 ghost use Rattle.std.specs.Prelude.{◌≡◌, ℕ, ◌<◌, ◌≤◌, List, length, take, Some, None, Ok, Err};
-ghost use Rattle.std.specs.List.{AllByRecursion as All};
+ghost use Rattle.std.specs.List.{AllByRecursion};
 ghost use Rattle.octets.specs.Areas.{front};
 ghost use Rattle.element.specs.Kinds.{Coding, InOrder, element_from, element_into, fault_of, made_from};
 
@@ -95,7 +95,7 @@ pub trait Kind: Copy {
     ghost returned: { (e : Self) → fault_of coding e ≡ None → coding.value (coding.written e) ≡ Some e };
 
     // Bytes that hold a value are the bytes of that value, so that no other bytes hold it.
-    ghost only: { (bs : List ℕ) (e : Self) → All (λ b. b < 256) bs → coding.value bs ≡ Some e → coding.written e ≡ bs };
+    ghost only: { (bs : List ℕ) (e : Self) → AllByRecursion (λ b. b < 256) bs → coding.value bs ≡ Some e → coding.written e ≡ bs };
 
     // The fields stand in the order of their offsets, so that the first one at fault has the lowest.
     ghost ordered: { (e : Self) → InOrder (coding.fields e) };

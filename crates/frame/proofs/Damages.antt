@@ -1,7 +1,7 @@
 -- A frame in which one byte was changed is not read.
 use Rattle.std.proofs.Common.{◌≡◌, ℕ, ◌+◌, ◌-◌, ◌<◌, ◌≤◌, Bool, true, false, ◌≢◌, List, length, get_or, take, set, is_ok, Ok, Err, Result, sym, refl, ap, ◌∙◌, inl, inr, arith, length-set, length-take, get_or-set_other, get_or-take, get_or-set_same}
 use lib.Seq.{take-set-le, take-set-lt}
-use Rattle.std.specs.List.{AllByRecursion as All}
+use Rattle.std.specs.List.{AllByRecursion}
 use Rattle.std.proofs.lemmas.Bool.{cases_eq, cases_lt}
 use Rattle.octets.proofs.Changes.{check_changed}
 use Rattle.octets.proofs.Numbers.{byte_at}
@@ -16,7 +16,7 @@ use Rattle.frame.specs.declared.Frame.{Frame}
 use Rattle.frame.proofs.Seals.{sealed_check}
 use Rattle.frame.proofs.Trips.{accepted}
 
-module _ (bs : List ℕ) (n i v : ℕ) (all : All (λ b. b < 256) bs) (long : length bs ≡ n + 2) (here : i < length bs) (small : v < 256) (differ : v ≡ get_or bs i 0 → ⊥) where
+module _ (bs : List ℕ) (n i v : ℕ) (all : AllByRecursion (λ b. b < 256) bs) (long : length bs ≡ n + 2) (here : i < length bs) (small : v < 256) (differ : v ≡ get_or bs i 0 → ⊥) where
   ds : List ℕ
   ds = set bs i v
 
@@ -69,7 +69,7 @@ no_frame : (r : Result (Frame (List ℕ)) Refusal) → ((f : Frame (List ℕ)) �
 no_frame (Ok f) h = absurd (h f refl)
 no_frame (Err e) h = refl
 
-one_byte_safe : (format : Format) (w : ℕ) (f : Frame (List ℕ)) (bs : List ℕ) → All (λ b. b < 256) bs → read_from format w bs ≡ Ok f → OneByteSafe format w bs
+one_byte_safe : (format : Format) (w : ℕ) (f : Frame (List ℕ)) (bs : List ℕ) → AllByRecursion (λ b. b < 256) bs → read_from format w bs ≡ Ok f → OneByteSafe format w bs
 unfolding ds
 one_byte_safe format w f bs all h =
     let a = accepted format w f bs h in
@@ -79,6 +79,6 @@ one_byte_safe format w f bs all h =
     }
 
 -- the same of what the frame's bytes are a part of
-pub safe_read : {A : Type 0} (format : Format) (w : ℕ) (bs : List ℕ) (f : A → List ℕ) (r : Result (Frame A) Refusal) → All (λ b. b < 256) bs → read_from format w bs ≡ answered f r → is_ok r ≡ true → OneByteSafe format w bs
+pub safe_read : {A : Type 0} (format : Format) (w : ℕ) (bs : List ℕ) (f : A → List ℕ) (r : Result (Frame A) Refusal) → AllByRecursion (λ b. b < 256) bs → read_from format w bs ≡ answered f r → is_ok r ≡ true → OneByteSafe format w bs
 safe_read format w bs f (Ok x) all h ok = one_byte_safe format w (mapped f x) bs all h
 safe_read format w bs f (Err e) all h ok = let z : ◌≡◌ {A = Bool} false true = ok in absurd (let y : ◌≡◌ {A = ℕ} 0 1 = cc in omega arith)

@@ -1,6 +1,6 @@
 -- What holds of every answer of reading, from what the answer is.
 use Rattle.std.proofs.Common.{◌≡◌, ℕ, ◌<◌, true, List, is_ok, Result, sym}
-use Rattle.std.specs.List.{AllByRecursion as All}
+use Rattle.std.specs.List.{AllByRecursion}
 use Rattle.refusal.specs.declared.Refusal.{Refusal}
 use Rattle.frame.specs.Causes.{SmallestFirst}
 use Rattle.frame.specs.Formats.{answered}
@@ -12,6 +12,6 @@ use Rattle.frame.proofs.Damages.{safe_read}
 use Rattle.frame.proofs.Smallest.{smallest_first}
 use Rattle.frame.proofs.Trips.{only_read}
 
-pub read_laws : {A : Type 0} (format : Format) (w : ℕ) (bs : List ℕ) (f : A → List ℕ) (r : Result (Frame A) Refusal) → All (λ b. b < 256) bs → answered f r ≡ read_from format w bs → OnlyWritten format w bs (answered f r) × (is_ok r ≡ true → OneByteSafe format w bs) × SmallestFirst format w bs r
+pub read_laws : {A : Type 0} (format : Format) (w : ℕ) (bs : List ℕ) (f : A → List ℕ) (r : Result (Frame A) Refusal) → AllByRecursion (λ b. b < 256) bs → answered f r ≡ read_from format w bs → OnlyWritten format w bs (answered f r) × (is_ok r ≡ true → OneByteSafe format w bs) × SmallestFirst format w bs r
 read_laws format w bs f r all answer =
     (only_read format w bs _ all (sym answer), safe_read format w bs f r all (sym answer), smallest_first format w bs f r answer)

@@ -1,6 +1,6 @@
 -- The check behind the bytes that it covers.
 use Rattle.std.proofs.Common.{◌≡◌, ℕ, ◌+◌, ◌-◌, ◌/◌, ◌%◌, ◌<◌, ◌≤◌, true, not, ltb, List, [], ◌∷◌, ◌++◌, length, get_or, take, drop, sym, ap, ◌∙◌, arith, length-append}
-use Rattle.std.specs.List.{AllByRecursion as All}
+use Rattle.std.specs.List.{AllByRecursion}
 use Rattle.std.proofs.lemmas.List.{take_at, get_or_at, get_or-append-add, take-append-drop, drop_more, drop_all}
 use Rattle.std.proofs.lemmas.Bool.{and_parts, and_from, eq-eqb, eqb-true}
 use Rattle.std.proofs.lemmas.Bool.Decides.{nat_tests}
@@ -46,7 +46,7 @@ sealed_check n bs l s =
     ap (λ k. check (take k bs)) (sym k) ∙ eqb-true _ _ (and_parts _ _ s).1 ∙ (λ i. number16 (get_or bs (k i) 0) (get_or bs (m i) 0))
 
 -- bytes whose last two are the check of the others are these others with their check
-pub sealed_whole : (bs : List ℕ) → All (λ b. b < 256) bs → 2 ≤ length bs → is_sealed bs ≡ true → sealed_bytes (take (length bs - 2) bs) ≡ bs
+pub sealed_whole : (bs : List ℕ) → AllByRecursion (λ b. b < 256) bs → 2 ≤ length bs → is_sealed bs ≡ true → sealed_bytes (take (length bs - 2) bs) ≡ bs
 sealed_whole bs all l s =
     let n = length bs - 2 in
     let c = sealed_check n bs (omega arith) s in

@@ -1,6 +1,6 @@
 -- Reading what was written, and writing what was read.
 use Rattle.std.proofs.Common.{◌≡◌, ℕ, ◌+◌, ◌-◌, ◌<◌, ◌≤◌, Bool, true, false, cond, not, ◌||◌, ltb, List, ◌++◌, length, get_or, take, Some, None, Ok, Err, Option, Result, sym, refl, ap, ◌∙◌, arith}
-use Rattle.std.specs.List.{AllByRecursion as All}
+use Rattle.std.specs.List.{AllByRecursion}
 use Rattle.std.proofs.lemmas.List.{nil_from_length, take_at}
 use Rattle.std.proofs.lemmas.Bool.{or_parts, ltb-false, not-false}
 use Rattle.std.proofs.lemmas.Bool.Decides.{nat_tests}
@@ -91,7 +91,7 @@ marks : (bs : List ℕ) → is_marked bs ≡ true → (get_or bs 0 0 ≡ 0x4D) �
 marks bs h = grind (arith, nat_tests)
 
 -- the bytes of an accepted frame, one by one
-header_back : (bs : List ℕ) → All (λ b. b < 256) bs → 14 ≤ length bs → is_marked bs ≡ true → header_bytes (header_in bs) ++ carried_in bs ≡ take (length bs - 2) bs
+header_back : (bs : List ℕ) → AllByRecursion (λ b. b < 256) bs → 14 ≤ length bs → is_marked bs ≡ true → header_bytes (header_in bs) ++ carried_in bs ≡ take (length bs - 2) bs
 header_back bs all l m =
     let n = marks bs m in
     let ack = part16 bs 7 all (omega arith) in
@@ -109,7 +109,7 @@ accepted format w f bs h =
     (ltb-false _ _ (or_parts _ _ one.0).0, not-false _ two.0, not-false _ three.0, three.1)
 
 -- whatever is accepted is what is written, and nothing else is
-only_written : (format : Format) (w : ℕ) (f : Frame (List ℕ)) (bs : List ℕ) → All (λ b. b < 256) bs → read_from format w bs ≡ Ok f → (past_cycle format f ≡ None) × Wide w f × (frame_bytes format.sender f ≡ bs)
+only_written : (format : Format) (w : ℕ) (f : Frame (List ℕ)) (bs : List ℕ) → AllByRecursion (λ b. b < 256) bs → read_from format w bs ≡ Ok f → (past_cycle format f ≡ None) × Wide w f × (frame_bytes format.sender f ≡ bs)
 unfolding frame_bytes
 only_written format w f bs all h =
     let a = accepted format w f bs h in
@@ -118,6 +118,6 @@ only_written format w f bs all h =
     let body = (λ i. header_bytes (header.0 i) ++ header.1 i) ∙ header_back bs all a.0 a.1 in
     (frame.1, header.2, ap sealed_bytes body ∙ sealed_whole bs all (omega arith) a.2)
 
-pub only_read : (format : Format) (w : ℕ) (bs : List ℕ) (r : Result (Frame (List ℕ)) Refusal) → All (λ b. b < 256) bs → read_from format w bs ≡ r → OnlyWritten format w bs r
+pub only_read : (format : Format) (w : ℕ) (bs : List ℕ) (r : Result (Frame (List ℕ)) Refusal) → AllByRecursion (λ b. b < 256) bs → read_from format w bs ≡ r → OnlyWritten format w bs r
 only_read format w bs (Ok f) all h = only_written format w f bs all h
 only_read format w bs (Err r) all h = tt

@@ -1,6 +1,6 @@
 -- The bytes of the number that bytes write.
 use Rattle.std.proofs.Common.{◌≡◌, ℕ, ◌+◌, ◌/◌, ◌%◌, ◌^◌, ◌<◌, ◌≤◌, List, [], ◌∷◌, length, get_or, arith}
-use Rattle.std.specs.List.{AllByRecursion as All}
+use Rattle.std.specs.List.{AllByRecursion}
 use Rattle.std.proofs.ByRecursion.{All-get_or}
 use Rattle.octets.specs.Numbers.{bytes16, bytes32, number16, number32}
 
@@ -14,11 +14,11 @@ pub number_bytes16 : (n : ℕ) → n < 65536 → number16 (n / 256 % 256) (n % 2
 number_bytes16 n h = omega arith
 
 -- each of some bytes is one
-pub byte_at : (bs : List ℕ) → All (λ b. b < 256) bs → (k : ℕ) → k < length bs → get_or bs k 0 < 256
+pub byte_at : (bs : List ℕ) → AllByRecursion (λ b. b < 256) bs → (k : ℕ) → k < length bs → get_or bs k 0 < 256
 byte_at bs all k h = All-get_or (λ b. b < 256) bs k 0 h all
 
 -- the number that lies at place i of a list of bytes
-module _ (bs : List ℕ) (i : ℕ) (all : All (λ b. b < 256) bs) where
+module _ (bs : List ℕ) (i : ℕ) (all : AllByRecursion (λ b. b < 256) bs) where
   byte : (k : ℕ) → k < length bs → get_or bs k 0 < 256
   byte = byte_at bs all
 

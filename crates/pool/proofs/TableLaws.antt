@@ -52,7 +52,7 @@ frames_removed k used was now is =
     ∙ ap (λ xs. take k (frames_in used was) ++ xs) (sym (drop-map frame_in (suc k) (take used was)))
     ∙ sym (without_is k (frames_in used was))
 
--- the first i entries have been raised_entry, and the next one is as it was
+-- the first i entries have been raised, and the next one is as it was
 pub raised_rest : (i : ℕ) (was now : List Entry) → i < length was → now ≡ map raised_entry (take i was) ++ drop i was → get_or now i blank ≡ get_or was i blank
 raised_rest i was now below is =
     let n : length (map raised_entry (take i was)) ≡ i = length-map (take i was) raised_entry ∙ length-take-le i was (omega arith) in
@@ -61,7 +61,7 @@ raised_rest i was now below is =
     ∙ get_or-drop i was (i - i) blank
     ∙ ap (λ j. get_or was j blank) (omega arith)
 
--- one more entry is raised_entry
+-- one more entry is raised
 pub raised_more : (i : ℕ) (was now : List Entry) → i < length was → now ≡ map raised_entry (take i was) ++ drop i was → set now i (raised_entry (get_or now i blank)) ≡ map raised_entry (take (i + 1) was) ++ drop (i + 1) was
 raised_more i was now below is =
     let n : length (map raised_entry (take i was)) ≡ i = length-map (take i was) raised_entry ∙ length-take-le i was (omega arith) in

@@ -2,7 +2,7 @@
 use Rattle.std.proofs.Common.{◌≡◌, ℕ, zero, suc, ◌+◌, ◌≤◌, min, false, eqb, List, [], ◌∷◌, map, Some, None, Option, refl, subst, ap₂, arith}
 use Rattle.std.proofs.ByRecursion.{All-push}
 use Rattle.std.proofs.lemmas.Bool.{eqb-false, or_parts}
-use Rattle.std.specs.List.{AllByRecursion as All}
+use Rattle.std.specs.List.{AllByRecursion}
 use Rattle.refusal.specs.declared.Refusal.{Refusal}
 use Rattle.air.specs.Waiting.{Waiting, AirState, barred, fresh, joined, lost, overtaken, repeated, taken}
 use Rattle.air.specs.Steps.{Bytes, answer_refusal, answer_unless, frame_at, place_refusal, put_refusal, repeat_step, step_unless, take_step}
@@ -14,7 +14,7 @@ use Rattle.tight.specs.SameList.{SameList, air_below, through}
 
 -- no count is above the bound
 abbrev Within : ℕ → List (Waiting Bytes) → Type 0
-Within low ws = All (λ w. w.count ≤ low) ws
+Within low ws = AllByRecursion (λ w. w.count ≤ low) ws
 
 -- then none is capped
 uncapped : (low : ℕ) (ws : List (Waiting Bytes)) → Within low ws → map (capped low) ws ≡ ws

@@ -2,7 +2,7 @@
 use Rattle.std.specs.Prelude.{ℕ, min, List, [], ◌∷◌, map}
 use Rattle.std.proofs.Common.{arith}
 use Rattle.std.proofs.lemmas.List.{length-map}
-use Rattle.std.specs.List.{AllByRecursion as All}
+use Rattle.std.specs.List.{AllByRecursion}
 use Rattle.air.specs.Waiting.{Waiting, AirState}
 use Rattle.air.specs.Steps.{Bytes, Fine, Sound}
 use Rattle.tight.specs.declared.Tight.{Tight}
@@ -12,7 +12,7 @@ use Rattle.tight.specs.Tightened.{capped, tightened}
 abbrev pub tight_state : {A : Type 0} → (A → AirState Bytes) → Tight A → AirState Bytes
 tight_state state t = tightened t.given (state t.below)
 
-capped_fine : (own bound : ℕ) (ws : List (Waiting Bytes)) → All (Fine own) ws → All (Fine bound) (map (capped bound) ws)
+capped_fine : (own bound : ℕ) (ws : List (Waiting Bytes)) → AllByRecursion (Fine own) ws → AllByRecursion (Fine bound) (map (capped bound) ws)
 capped_fine own bound [] all = tt
 capped_fine own bound (w ∷ ws) all = ((all.0.0, all.0.1, all.0.2, omega arith), capped_fine own bound ws all.1)
 
