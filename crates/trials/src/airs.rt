@@ -4,9 +4,17 @@ use octets::LONGEST;
 use pool::Pool;
 use refusal::Refusal;
 use shelf::{SLOT, Shelf};
-use std::process::Abort;
+use std::fmt::Debug;
 use std::test::Fail;
 use tight::Tight;
+
+// Fails where two values differ. It takes no handle, so no helper of these tests can end the process.
+fn check_eq<T: PartialEq + Debug + Drop>(left: T, right: T) -> Result<(), Fail> {
+    if left == right {
+        return Ok(());
+    }
+    Err(Fail::new(format_args!("{left:?} is not {right:?}")))
+}
 
 // The number of a refusal; 0 for any other answer.
 fn number<T: Drop>(answer: Result<T, Refusal>) -> u8 {
@@ -17,20 +25,20 @@ fn number<T: Drop>(answer: Result<T, Refusal>) -> u8 {
 }
 
 // An empty air with room for some frames is filled, and then refuses by 6, but a wrong size by 9 first.
-fn fills_up<A: Air>(rt: &impl Abort, air: &mut A) {
+fn fills_up<A: Air>(air: &mut A) -> Result<(), Fail> {
     let capacity = air.capacity();
     for i in 0..capacity {
-        assert_eq!(rt; air.waiting(), i);
-        assert_eq!(rt; number(air.put(&[7; LONGEST])), 0);
+        check_eq(air.waiting(), i)?;
+        check_eq(number(air.put(&[7; LONGEST])), 0)?;
     }
-    assert_eq!(rt; air.waiting(), capacity);
-    assert_eq!(rt; number(air.put(&[7])), 6);
-    assert_eq!(rt; number(air.put(&[])), 9);
-    assert_eq!(rt; number(air.put(&[7; 33])), 9);
-    assert_eq!(rt; number(air.lose(capacity)), 7);
-    assert_eq!(rt; number(air.count(capacity)), 7);
+    check_eq(air.waiting(), capacity)?;
+    check_eq(number(air.put(&[7])), 6)?;
+    check_eq(number(air.put(&[])), 9)?;
+    check_eq(number(air.put(&[7; 33])), 9)?;
+    check_eq(number(air.lose(capacity)), 7)?;
+    check_eq(number(air.count(capacity)), 7)?;
     clear(air);
-    assert_eq!(rt; air.waiting(), 0);
+    check_eq(air.waiting(), 0)
 }
 
 // The first three counts.
@@ -43,65 +51,64 @@ fn three_counts<A: Air>(air: &A) -> (u8, u8, u8) {
 }
 
 // Repeating raises the counts of older frames alone, up to the bound 2, and writes the front of the area.
-fn repeats<A: Air>(rt: &impl Abort, air: &mut A) {
+fn repeats<A: Air>(air: &mut A) -> Result<(), Fail> {
     let mut area = [9; LONGEST];
-    assert_eq!(rt; air.repeat(2, &mut area).ok(), Some(5));
-    assert_eq!(rt; &area[0..7], b"young\x09\x09".as_slice());
-    assert_eq!(rt; three_counts(air), (1, 1, 0));
-    assert_eq!(rt; air.repeat(1, &mut area).ok(), Some(3));
-    assert_eq!(rt; &area[0..7], b"midng\x09\x09".as_slice());
-    assert_eq!(rt; three_counts(air), (2, 1, 0));
-    assert_eq!(rt; most_overtaken(air), 2);
+    check_eq(air.repeat(2, &mut area).ok(), Some(5))?;
+    check_eq(&area[0..7], b"young\x09\x09".as_slice())?;
+    check_eq(three_counts(air), (1, 1, 0))?;
+    check_eq(air.repeat(1, &mut area).ok(), Some(3))?;
+    check_eq(&area[0..7], b"midng\x09\x09".as_slice())?;
+    check_eq(three_counts(air), (2, 1, 0))?;
+    check_eq(most_overtaken(air), 2)
 }
 
 // Where the oldest count is the bound, younger frames are refused by 8, and a place without a frame by 7; nothing changes.
-fn refuses<A: Air>(rt: &impl Abort, air: &mut A) {
+fn refuses<A: Air>(air: &mut A) -> Result<(), Fail> {
     let mut area = [9; LONGEST];
-    assert_eq!(rt; number(air.take(2, &mut area)), 8);
-    assert_eq!(rt; number(air.repeat(1, &mut area)), 8);
-    assert_eq!(rt; number(air.take(3, &mut area)), 7);
-    assert_eq!(rt; number(air.repeat(3, &mut area)), 7);
-    assert_eq!(rt; area, [9; LONGEST]);
-    assert_eq!(rt; three_counts(air), (2, 1, 0));
+    check_eq(number(air.take(2, &mut area)), 8)?;
+    check_eq(number(air.repeat(1, &mut area)), 8)?;
+    check_eq(number(air.take(3, &mut area)), 7)?;
+    check_eq(number(air.repeat(3, &mut area)), 7)?;
+    check_eq(area, [9; LONGEST])?;
+    check_eq(three_counts(air), (2, 1, 0))
 }
 
 // Losing the oldest frees those behind it, and raises no count; taking raises those of older frames.
-fn empties<A: Air>(rt: &impl Abort, air: &mut A) {
+fn empties<A: Air>(air: &mut A) -> Result<(), Fail> {
     let mut area = [9; LONGEST];
-    assert_eq!(rt; number(air.lose(0)), 0);
-    assert_eq!(rt; three_counts(air), (1, 0, 99));
-    assert_eq!(rt; air.take(1, &mut area).ok(), Some(5));
-    assert_eq!(rt; three_counts(air), (2, 99, 99));
-    assert_eq!(rt; air.take(0, &mut area).ok(), Some(3));
-    assert_eq!(rt; &area[0..7], b"midng\x09\x09".as_slice());
-    assert_eq!(rt; (most_overtaken(air), air.waiting()), (0, 0));
+    check_eq(number(air.lose(0)), 0)?;
+    check_eq(three_counts(air), (1, 0, 99))?;
+    check_eq(air.take(1, &mut area).ok(), Some(5))?;
+    check_eq(three_counts(air), (2, 99, 99))?;
+    check_eq(air.take(0, &mut area).ok(), Some(3))?;
+    check_eq(&area[0..7], b"midng\x09\x09".as_slice())?;
+    check_eq((most_overtaken(air), air.waiting()), (0, 0))
 }
 
 // An empty air with bound 2 and room for three.
-fn counts<A: Air>(rt: &impl Abort, air: &mut A) -> Result<(), Fail> {
+fn counts<A: Air>(air: &mut A) -> Result<(), Fail> {
     air.put(b"old")?;
     air.put(b"mid")?;
     air.put(b"young")?;
-    repeats(rt, air);
-    refuses(rt, air);
-    empties(rt, air);
-    Ok(())
+    repeats(air)?;
+    refuses(air)?;
+    empties(air)
 }
 
-fn behaves<A: Air>(rt: &impl Abort, air: &mut A) -> Result<(), Fail> {
-    fills_up(rt, air);
-    counts(rt, air)
+fn behaves<A: Air>(air: &mut A) -> Result<(), Fail> {
+    fills_up(air)?;
+    counts(air)
 }
 
 #[test]
-fn every_air_behaves_alike(rt: HostRuntime) -> Result<(), Fail> {
-    behaves(&rt, &mut Pool::new(2))?;
+fn every_air_behaves_alike() -> Result<(), Fail> {
+    behaves(&mut Pool::new(2))?;
     let mut memory = [1; 3 * SLOT + 35];
     let mut shelf = Shelf::new(&mut memory, 2);
-    behaves(&rt, &mut shelf)?;
-    behaves(&rt, &mut Tight::new(Pool::new(2), 200))?;
-    behaves(&rt, &mut Tight::new(Tight::new(Pool::new(200), 2), 3))?;
-    behaves(&rt, &mut Tight::new(Lent(&mut shelf), 2))
+    behaves(&mut shelf)?;
+    behaves(&mut Tight::new(Pool::new(2), 200))?;
+    behaves(&mut Tight::new(Tight::new(Pool::new(200), 2), 3))?;
+    behaves(&mut Tight::new(Lent(&mut shelf), 2))
 }
 
 // How many frames fit on a shelf with so many bytes of memory, which are at most 36,072.
@@ -111,7 +118,7 @@ fn room(bytes: usize) -> usize {
 }
 
 #[test]
-fn capacities_and_bounds(rt: HostRuntime) {
+fn capacities_and_bounds() -> Result<(), Fail> {
     let table = [
         (0, 0),
         (35, 0),
@@ -123,32 +130,31 @@ fn capacities_and_bounds(rt: HostRuntime) {
         (36_072, 1_000),
     ];
     for (bytes, frames) in table {
-        assert_eq!(rt; room(bytes), frames);
+        check_eq(room(bytes), frames)?;
     }
-    assert_eq!(rt; Pool::new(255).capacity(), 16);
-    assert_eq!(rt; Tight::new(Pool::new(3), 7).bound(), 3);
-    assert_eq!(rt; Tight::new(Pool::new(7), 3).bound(), 3);
+    check_eq(Pool::new(255).capacity(), 16)?;
+    check_eq(Tight::new(Pool::new(3), 7).bound(), 3)?;
+    check_eq(Tight::new(Pool::new(7), 3).bound(), 3)?;
     let mut small = [0; 36];
-    assert_eq!(rt;
+    check_eq(
         Tight::new(Lent(&mut Shelf::new(&mut small, 1)), 0).capacity(),
-        1
-    );
+        1,
+    )
 }
 
 // What waited before an air was held to a bound is lost, and what waits then is there when it is released.
 #[test]
-fn tight_airs_start_empty(rt: HostRuntime) -> Result<(), Fail> {
+fn tight_airs_start_empty() -> Result<(), Fail> {
     let mut pool = Pool::new(9);
     pool.put(b"before")?;
     let mut tight = Tight::new(pool, 1);
-    assert_eq!(rt; tight.waiting(), 0);
+    check_eq(tight.waiting(), 0)?;
     tight.put(b"after")?;
     let mut pool = tight.release();
     let mut area = [0; LONGEST];
-    assert_eq!(rt; (pool.waiting(), pool.bound()), (1, 9));
-    assert_eq!(rt; pool.take(0, &mut area)?, 5);
-    assert_eq!(rt; &area[0..5], b"after".as_slice());
-    Ok(())
+    check_eq((pool.waiting(), pool.bound()), (1, 9))?;
+    check_eq(pool.take(0, &mut area)?, 5)?;
+    check_eq(&area[0..5], b"after".as_slice())
 }
 
 // A length with 0, or the number of a refusal with 0.
@@ -165,7 +171,7 @@ fn next(draw: u32) -> u32 {
 }
 
 // One call, of a kind and a place that a drawn number picks, on two airs: the same answer, the same area, the same counts.
-fn same_call<A: Air, B: Air>(rt: &impl Abort, a: &mut A, b: &mut B, draw: u32) {
+fn same_call<A: Air, B: Air>(a: &mut A, b: &mut B, draw: u32) -> Result<(), Fail> {
     let mut one = [9; LONGEST];
     let mut other = [9; LONGEST];
     let k = (draw >> 20 & 0xf) as usize;
@@ -173,39 +179,38 @@ fn same_call<A: Air, B: Air>(rt: &impl Abort, a: &mut A, b: &mut B, draw: u32) {
     let n = (draw >> 12 & 0x7) as usize;
     let bytes = &frame[0..n.min(4)];
     match draw >> 28 {
-        0..=6 => assert_eq!(rt; number(a.put(bytes)), number(b.put(bytes))),
-        7 | 8 => assert_eq!(rt; number(a.lose(k)), number(b.lose(k))),
-        9..=11 => assert_eq!(rt;
+        0..=6 => check_eq(number(a.put(bytes)), number(b.put(bytes)))?,
+        7 | 8 => check_eq(number(a.lose(k)), number(b.lose(k)))?,
+        9..=11 => check_eq(
             outcome(a.repeat(k, &mut one)),
-            outcome(b.repeat(k, &mut other))
-        ),
-        _ => assert_eq!(rt;
-            outcome(a.take(k, &mut one)),
-            outcome(b.take(k, &mut other))
-        ),
+            outcome(b.repeat(k, &mut other)),
+        )?,
+        _ => check_eq(outcome(a.take(k, &mut one)), outcome(b.take(k, &mut other)))?,
     }
-    assert_eq!(rt; one, other);
-    assert_eq!(rt; a.waiting(), b.waiting());
+    check_eq(one, other)?;
+    check_eq(a.waiting(), b.waiting())?;
     for i in 0..17 {
-        assert_eq!(rt; a.count(i).unwrap_or(99), b.count(i).unwrap_or(99));
+        check_eq(a.count(i).unwrap_or(99), b.count(i).unwrap_or(99))?;
     }
+    Ok(())
 }
 
 // A thousand calls on two empty airs of the same capacity and bound.
-fn agree<A: Air, B: Air>(rt: &impl Abort, a: &mut A, b: &mut B) {
-    assert_eq!(rt; (a.capacity(), a.bound()), (b.capacity(), b.bound()));
+fn agree<A: Air, B: Air>(a: &mut A, b: &mut B) -> Result<(), Fail> {
+    check_eq((a.capacity(), a.bound()), (b.capacity(), b.bound()))?;
     let mut draw = 2_026;
     for _ in 0..1_000 {
         draw = next(draw);
-        same_call(rt, a, b, draw);
+        same_call(a, b, draw)?;
     }
+    Ok(())
 }
 
 #[test]
-fn airs_agree_call_by_call(rt: HostRuntime) {
+fn airs_agree_call_by_call() -> Result<(), Fail> {
     let mut memory = [3; 16 * SLOT];
     let mut shelf = Shelf::new(&mut memory, 2);
-    agree(&rt, &mut Pool::new(2), &mut shelf);
-    agree(&rt, &mut Pool::new(5), &mut Tight::new(Pool::new(200), 5));
-    agree(&rt, &mut Tight::new(Lent(&mut shelf), 0), &mut Pool::new(0));
+    agree(&mut Pool::new(2), &mut shelf)?;
+    agree(&mut Pool::new(5), &mut Tight::new(Pool::new(200), 5))?;
+    agree(&mut Tight::new(Lent(&mut shelf), 0), &mut Pool::new(0))
 }
