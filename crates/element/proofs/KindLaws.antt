@@ -1,18 +1,17 @@
 -- What follows from the laws of every kind.
-use Rattle.std.proofs.Common.{◌≡◌, ℕ, List, length, take, Some, None, Ok, Option, sym, refl, ap, ◌∙◌, arith}
+use Rattle.std.proofs.Common.{◌≡◌, ℕ, List, length, take, Some, None, Ok, Option, sym, refl, ap, ◌∙◌, rules}
 use Rattle.octets.proofs.Fronts.{take-front}
 use Rattle.octets.specs.Areas.{front, written_unless}
-use Rattle.refusal.specs.Refusals.{unless}
-use Rattle.element.specs.Kinds.{Coding, element_from, element_into, fault_of, in_range, out_of_range}
+use Rattle.element.specs.Kinds.{Coding, element_from, element_into, fault_of, out_of_range}
 
 -- the bytes of an element are read as that element
 pub reads_back : {K : Type 0} (kind : Coding K) (e : K) → fault_of kind e ≡ None → kind.value (kind.written e) ≡ Some e → element_from kind (kind.written e) ≡ Ok e
-reads_back kind e fine held = ap (in_range kind) held ∙ ap (unless e) fine
+reads_back kind e fine held = search rules
 
 -- a value that is not refused is an element
 pub in_range_lem : (o : Option ℕ) → out_of_range o ≡ None → o ≡ None
 in_range_lem None h = refl
-in_range_lem (Some at) h = let z : ◌≡◌ {A = ℕ} 0 1 = cc in absurd (omega arith)
+in_range_lem (Some at) h = cc
 
 -- what was written is an element, and the front of the area holds its bytes
 by_fault : (o : Option ℕ) (bs old area : List ℕ) (n : ℕ) → (Ok n, area) ≡ written_unless (out_of_range o) bs old → (o ≡ None) × (n ≡ length bs) × (area ≡ front bs old)
@@ -21,8 +20,7 @@ by_fault None bs old area n h =
     (refl, cc, ap (λ t. t.1) h)
 by_fault (Some at) bs old area n h =
     let answer = ap (λ t. t.0) h in
-    let z : ◌≡◌ {A = ℕ} 0 1 = cc in
-    absurd (omega arith)
+    absurd cc
 
 pub wrote_element : {K : Type 0} (kind : Coding K) (e : K) (n : ℕ) (old area : List ℕ) → (Ok n, area) ≡ element_into kind e old → (fault_of kind e ≡ None) × (n ≡ length (kind.written e)) × (take n area ≡ kind.written e)
 wrote_element kind e n old area h =

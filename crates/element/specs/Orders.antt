@@ -1,9 +1,19 @@
 -- Which orders there are, and their five bytes.
-use Rattle.std.specs.Prelude.{ℕ, ◌^◌, cond, ◌||◌, List, [], ◌∷◌, ◌++◌, length, Some, None, Option, ◌==◌, nat_le, nat_lt, slice_index}
+use Rattle.std.specs.Prelude.{ℕ, ◌^◌, cond, ◌||◌, List, [], ◌∷◌, ◌++◌, length, Some, None, Ok, Err, Option, Result, ◌==◌, nat_le, nat_lt, slice_index}
 use Rattle.octets.specs.Numbers.{bytes16, bytes32, number16, number32}
 use Rattle.element.specs.Kinds.{Coding, Field, field}
 use Rattle.element.specs.declared.order.Order.{Order}
+use Rattle.element.specs.declared.order.Tag.{Tag}
+use Rattle.element.specs.declared.order.UnknownTag.{UnknownTag}
 use Rattle.element.specs.declared.order.Order.TheVariants.{Tune, Point, Note}
+
+-- the tag that a byte is
+abbrev pub tag_of : ℕ → Result Tag UnknownTag
+tag_of byte =
+    cond (byte == 1) (Ok Tag.Tune)
+    (cond (byte == 2) (Ok Tag.Point)
+    (cond (byte == 3) (Ok Tag.Note)
+    (Err (record {}))))
 
 -- the fields behind the tag
 abbrev pub order_fields : Order → List Field

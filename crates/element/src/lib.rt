@@ -17,10 +17,12 @@ pub const WIDEST: usize = 18;
 // A kind of element. A value of the type is an element where none of its fields is out of range; its fields are public, so
 // that a caller may hand over any value, and `make` and `write` refuse one that is no element.
 //
-// Who adds a kind gives the width, the coding and the four calls up to `value`, and shows the laws; the other calls follow.
+// Who adds a kind gives the width, the coding and the calls `fault`, `lay_out` and `value`, and shows the laws; the other calls follow.
 pub trait Kind: Copy {
-    // The width of an element in bytes.
+    // The width of an element in bytes, and its name in clauses.
     const W: usize;
+
+    ghost W: { ℕ };
 
     // The kind's bytes and fields, for clauses.
     ghost coding: { Coding Self };
@@ -28,9 +30,12 @@ pub trait Kind: Copy {
     // Some element.
     ghost example: { Self };
 
-    // The width; each kind answers its `W`, which code under a bound cannot read.
+    // The width.
     fn width() -> usize
-        ensures { result ≡ coding.width };
+        ensures { result ≡ coding.width }
+    {
+        Self::W
+    }
 
     // The offset of the first field out of range; none for an element.
     fn fault(&self) -> Option<usize>
@@ -61,10 +66,7 @@ pub trait Kind: Copy {
         ensures answer { (result, area.new) ≡ element_into coding self.now area.old }
         ensures back { elim result [ Ok n ↦ element_from coding (take n area.new) ≡ Ok self.now | Err _ ↦ Unit {0} ] }
     {
-        if self.fault().is_some() {
-            return Err(Refusal::FieldOutOfRange);
-        }
-        self.lay_out(area);
+        self.make()?.lay_out(area);
         Ok(Self::width())
     }
 
@@ -73,14 +75,15 @@ pub trait Kind: Copy {
         ensures answer { result ≡ element_from coding bytes.now }
         ensures only { elim result [ Ok e ↦ (fault_of coding e ≡ None) × (coding.written e ≡ bytes.now) | Err at ↦ at < coding.width ] }
     {
-        let Some(element) = Self::value(bytes) else {
-            return Err(0);
-        };
+        let element = Self::value(bytes).ok_or(0usize)?;
         match element.fault() {
             Some(at) => Err(at),
             None => Ok(element),
         }
     }
+
+    // The constant is the coding's width.
+    ghost wide: { coding.width ≡ W };
 
     // A width is 1 to 18.
     ghost narrow: { (1 ≤ coding.width) × (coding.width ≤ 18) };

@@ -1,5 +1,6 @@
 // Orders: what the hut asks of the mast.
-ghost use Rattle.element.specs.Orders.{an_order, order_coding};
+ghost use Rattle.std.specs.Prelude.{◌≡◌};
+ghost use Rattle.element.specs.Orders.{an_order, order_coding, tag_of};
 ghost use Rattle.element.specs.OrderLaws.{order_only};
 ghost use Rattle.std.proofs.Common.{rules};
 
@@ -16,16 +17,34 @@ pub enum Order {
     Note { number: u32 },
 }
 
+// What the first byte of an order says that it is.
+#[derive(Clone, Copy, PartialEq, Eq, Debug)]
+enum Tag {
+    Tune = 1,
+    Point = 2,
+    Note = 3,
+}
+
+// A byte that is no tag.
+#[derive(Clone, Copy, PartialEq, Eq, Debug)]
+struct UnknownTag;
+
+impl TryFrom<u8> for Tag {
+    type Error = UnknownTag;
+
+    ghost try_from_gives = { λ byte tag. tag ≡ tag_of byte };
+
+    fn try_from(byte: u8) -> Result<Tag, UnknownTag> {
+        match byte {
+            1 => Ok(Tag::Tune),
+            2 => Ok(Tag::Point),
+            3 => Ok(Tag::Note),
+            _ => Err(UnknownTag),
+        }
+    }
+}
+
 impl Order {
-    // The tag of an order to tune.
-    pub const TUNE: u8 = 1;
-
-    // The tag of an order to point.
-    pub const POINT: u8 = 2;
-
-    // The tag of a launch note.
-    pub const NOTE: u8 = 3;
-
     // The lowest frequency, in kHz.
     pub const MIN_KHZ: u32 = 400_150;
 
@@ -43,9 +62,13 @@ impl Order {
 impl Kind for Order {
     const W: usize = 5;
 
+    ghost W = { 5 };
+
     ghost coding = { order_coding };
 
     ghost example = { an_order };
+
+    ghost wide = { Prim.search rules };
 
     ghost narrow = { Prim.search rules };
 
@@ -61,62 +84,45 @@ impl Kind for Order {
 
     ghost inside = { Prim.search rules };
 
-    fn width() -> usize {
-        Self::W
-    }
-
     fn fault(&self) -> Option<usize> {
         match *self {
-            Order::Tune { khz } => {
-                if khz < Self::MIN_KHZ || khz > Self::MAX_KHZ {
-                    Some(1)
-                } else {
-                    None
-                }
-            }
-            Order::Point { bearing, elevation } => {
-                if bearing > Self::MAX_BEARING {
-                    Some(1)
-                } else if elevation > Self::MAX_ELEVATION {
-                    Some(3)
-                } else {
-                    None
-                }
-            }
+            Order::Tune { khz } if !(Self::MIN_KHZ..=Self::MAX_KHZ).contains(&khz) => Some(1),
+            Order::Point { bearing, .. } if bearing > Self::MAX_BEARING => Some(1),
+            Order::Point { elevation, .. } if elevation > Self::MAX_ELEVATION => Some(3),
+            Order::Tune { .. } | Order::Point { .. } => None,
             Order::Note { number: _number } => None,
         }
     }
 
     fn lay_out(&self, area: &mut [u8; WIDEST]) {
         let (tag, [a, b, c, d]) = match *self {
-            Order::Tune { khz } => (Self::TUNE, khz.to_be_bytes()),
+            Order::Tune { khz } => (Tag::Tune, khz.to_be_bytes()),
             Order::Point { bearing, elevation } => {
                 let [a, b] = bearing.to_be_bytes();
                 let [c, d] = elevation.to_be_bytes();
-                (Self::POINT, [a, b, c, d])
+                (Tag::Point, [a, b, c, d])
             }
-            Order::Note { number } => (Self::NOTE, number.to_be_bytes()),
+            Order::Note { number } => (Tag::Note, number.to_be_bytes()),
         };
-        let bytes = [tag, a, b, c, d];
-        area[0..bytes.len()].copy_from_slice(&bytes);
+        let bytes = [tag as u8, a, b, c, d];
+        area[..bytes.len()].copy_from_slice(&bytes);
     }
 
     fn value(bytes: &[u8]) -> Option<Order> {
-        let [tag, a, b, c, d] = bytes else {
+        let &[tag, a, b, c, d] = bytes else {
             return None;
         };
-        match *tag {
-            Self::TUNE => Some(Order::Tune {
-                khz: u32::from_be_bytes([*a, *b, *c, *d]),
-            }),
-            Self::POINT => Some(Order::Point {
-                bearing: u16::from_be_bytes([*a, *b]),
-                elevation: u16::from_be_bytes([*c, *d]),
-            }),
-            Self::NOTE => Some(Order::Note {
-                number: u32::from_be_bytes([*a, *b, *c, *d]),
-            }),
-            _ => None,
-        }
+        Some(match Tag::try_from(tag).ok()? {
+            Tag::Tune => Order::Tune {
+                khz: u32::from_be_bytes([a, b, c, d]),
+            },
+            Tag::Point => Order::Point {
+                bearing: u16::from_be_bytes([a, b]),
+                elevation: u16::from_be_bytes([c, d]),
+            },
+            Tag::Note => Order::Note {
+                number: u32::from_be_bytes([a, b, c, d]),
+            },
+        })
     }
 }

@@ -44,9 +44,13 @@ impl Reading {
 impl Kind for Reading {
     const W: usize = 14;
 
+    ghost W = { 14 };
+
     ghost coding = { reading_coding };
 
     ghost example = { a_reading };
+
+    ghost wide = { Prim.search rules };
 
     ghost narrow = { Prim.search rules };
 
@@ -62,25 +66,16 @@ impl Kind for Reading {
 
     ghost inside = { Prim.search rules };
 
-    fn width() -> usize {
-        Self::W
-    }
-
     fn fault(&self) -> Option<usize> {
-        let Reading {
-            time: _time,
-            height,
-            temperature,
-            humidity,
-            pressure,
-        } = *self;
-        if height < Self::MIN_HEIGHT || height > Self::MAX_HEIGHT {
+        // Any time is in range: it is read for its type's bound alone.
+        let _time = self.time;
+        if !(Self::MIN_HEIGHT..=Self::MAX_HEIGHT).contains(&self.height) {
             Some(4)
-        } else if temperature < Self::MIN_TEMPERATURE || temperature > Self::MAX_TEMPERATURE {
+        } else if !(Self::MIN_TEMPERATURE..=Self::MAX_TEMPERATURE).contains(&self.temperature) {
             Some(8)
-        } else if humidity > Self::MAX_HUMIDITY {
+        } else if self.humidity > Self::MAX_HUMIDITY {
             Some(10)
-        } else if pressure > Self::MAX_PRESSURE {
+        } else if self.pressure > Self::MAX_PRESSURE {
             Some(12)
         } else {
             None
@@ -94,19 +89,19 @@ impl Kind for Reading {
         let [u0, u1] = self.humidity.to_be_bytes();
         let [p0, p1] = self.pressure.to_be_bytes();
         let bytes = [t0, t1, t2, t3, h0, h1, h2, h3, c0, c1, u0, u1, p0, p1];
-        area[0..bytes.len()].copy_from_slice(&bytes);
+        area[..bytes.len()].copy_from_slice(&bytes);
     }
 
     fn value(bytes: &[u8]) -> Option<Reading> {
-        let [t0, t1, t2, t3, h0, h1, h2, h3, c0, c1, u0, u1, p0, p1] = bytes else {
+        let &[t0, t1, t2, t3, h0, h1, h2, h3, c0, c1, u0, u1, p0, p1] = bytes else {
             return None;
         };
         Some(Reading {
-            time: u32::from_be_bytes([*t0, *t1, *t2, *t3]),
-            height: i32::from_be_bytes([*h0, *h1, *h2, *h3]),
-            temperature: i16::from_be_bytes([*c0, *c1]),
-            humidity: u16::from_be_bytes([*u0, *u1]),
-            pressure: u16::from_be_bytes([*p0, *p1]),
+            time: u32::from_be_bytes([t0, t1, t2, t3]),
+            height: i32::from_be_bytes([h0, h1, h2, h3]),
+            temperature: i16::from_be_bytes([c0, c1]),
+            humidity: u16::from_be_bytes([u0, u1]),
+            pressure: u16::from_be_bytes([p0, p1]),
         })
     }
 }
