@@ -17,11 +17,13 @@ pub const WIDEST: usize = 18;
 // A kind of element. A value of the type is an element where none of its fields is out of range; its fields are public, so
 // that a caller may hand over any value, and `make` and `write` refuse one that is no element.
 //
-// Who adds a kind gives the width, the coding and the calls `fault`, `lay_out` and `value`, and shows the laws; the other calls follow.
+// Who adds a kind gives the width, the coding, and the calls `fault`, `lay_out` and `value`, and shows the laws; the other
+// calls follow.
 pub trait Kind: Copy {
-    // The width of an element in bytes, and its name in clauses.
+    // The width of an element in bytes.
     const W: usize;
 
+    // The same, for clauses.
     ghost W: { ℕ };
 
     // The kind's bytes and fields, for clauses.
