@@ -37,10 +37,7 @@ fn is_at_bound<A: Gauge>(air: &A, i: usize) -> bool
     requires { i < length (A.Gauge.state air.now).waiting }
     ensures { result ≡ (count_of (slice_get (A.Gauge.state air.now).waiting i) == (A.Gauge.state air.now).bound) }
 {
-    match air.count(i) {
-        Ok(count) => count == air.bound(),
-        Err(_) => false,
-    }
+    air.count(i) == Ok(air.bound())
 }
 
 // Whether a frame before place k has been overtaken as often as the bound allows.
@@ -48,12 +45,7 @@ fn is_barred<A: Gauge>(air: &A, k: usize) -> bool
     requires { k ≤ length (A.Gauge.state air.now).waiting }
     ensures { result ≡ barred (A.Gauge.state air.now).bound k (A.Gauge.state air.now).waiting }
 {
-    for i in 0..k {
-        if is_at_bound(air, i) {
-            return true;
-        }
-    }
-    false
+    (0..k).any(|i| is_at_bound(air, i))
 }
 
 // Refuses to answer a frame that is not there, and then one that may not overtake those before it.

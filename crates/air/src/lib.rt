@@ -61,7 +61,12 @@ pub trait Air: Gauge {
     // Answers frame k, in the front of the area, by its length; the frame is then gone, and has overtaken each older one. Refused
     // by 7 where no frame waits at place k, and then by 8 where an older one may not be overtaken again.
     fn take(&mut self, k: usize, area: &mut [u8; LONGEST]) -> Result<usize, Refusal>
-        ensures { (result, Self.Gauge.state self.new, area.new) ≡ take_step k (Self.Gauge.state self.old) area.old };
+        ensures { (result, Self.Gauge.state self.new, area.new) ≡ take_step k (Self.Gauge.state self.old) area.old }
+    {
+        let n = self.repeat(k, area)?;
+        self.lose(k)?;
+        Ok(n)
+    }
 
     // Answers frame k as taking it does, but the frame stays, with its own count as it was.
     fn repeat(&mut self, k: usize, area: &mut [u8; LONGEST]) -> Result<usize, Refusal>

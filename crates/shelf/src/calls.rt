@@ -85,12 +85,6 @@ impl<'a> Air for Shelf<'a> {
         Ok(())
     }
 
-    fn take(&mut self, k: usize, area: &mut [u8; LONGEST]) -> Result<usize, Refusal> {
-        let n = self.answer(k, area)?;
-        self.remove(k);
-        Ok(n)
-    }
-
     fn repeat(&mut self, k: usize, area: &mut [u8; LONGEST]) -> Result<usize, Refusal> {
         self.answer(k, area)
     }

@@ -1,18 +1,11 @@
-use Rattle.std.proofs.Common.{sym, arith}
-use Rattle.std.proofs.lemmas.Bool.{eqb-false, eqb-true}
-use Rattle.std.specs.List.{slice_get}
-use Rattle.air.specs.Steps.{count_of}
-use Rattle.air.proofs.Places.{barred_at, barred_more}
+use Rattle.std.proofs.Common.{◌∙◌, refl, arith, rules}
+use Rattle.std.proofs.lemmas.Iterator.{YieldsList-from_range}
+use Rattle.std.proofs.lemmas.Iterator.Search.{any_from_yields_List}
+use Rattle.air.proofs.Places.{barred_any, is_at_bound}
 use Rattle.air.proofs.checks.is_barred.Goals as goal
 
-pub returns-then-is_at_bound : goal.returns-then-is_at_bound
-returns-then-is_at_bound g c =
+pub returns : goal.returns
+returns g c =
     let a = g.A.Gauge.state c.args.air.now in
-    let i = c.loop-i.i in
-    sym (barred_at a.bound c.args.k i a.waiting (omega arith) (omega arith) (eqb-true (count_of (slice_get a.waiting i)) a.bound (sym c.if-is_at_bound.ensures)))
-
-pub loop-i-preserved : goal.loop-i-preserved
-loop-i-preserved g c =
-    let a = g.A.Gauge.state c.args.air.now in
-    let i = c.loop-i.i in
-    barred_more a.bound i a.waiting (omega arith) (eqb-false (count_of (slice_get a.waiting i)) a.bound (sym c.if-is_at_bound.ensures)) c.loop-i.invariant
+    any_from_yields_List (is_at_bound a.bound a.waiting) _ _ _ c.any.ensures.ran (YieldsList-from_range 0 c.args.k c.args.k refl (omega arith)) (λ x b q k. search rules)
+    ∙ barred_any a.bound a.waiting c.args.k c.requires

@@ -1,0 +1,10 @@
+use Rattle.std.proofs.Common.{◌≡◌, length}
+use Rattle.air.specs.Waiting.{with_waiting}
+use Rattle.air.proofs.clearing.clear.Given as goal
+
+-- only the waiting frames are others
+abbrev pub invariant-loop : goal.invariant-loop
+invariant-loop g l = let was = g.A.Gauge.state l.initial.air in let is = g.A.Gauge.state l.air in is ≡ with_waiting was is.waiting
+
+abbrev pub decreases-loop : goal.decreases-loop
+decreases-loop g l = length (g.A.Gauge.state l.air).waiting
