@@ -8,18 +8,7 @@ use refusal::Refusal;
 use shelf::{SLOT, Shelf};
 use std::io;
 use tight::Tight;
-
-// What an area holds before anything is written into it.
-const BLANK: u8 = 0xAA;
-
-// Whether the area begins with these bytes and is blank behind them.
-fn holds_only(area: &[u8; LONGEST], bytes: &[u8]) -> bool {
-    let mut same = bytes.len() <= LONGEST;
-    for (i, byte) in area.iter().enumerate() {
-        same = same && *byte == bytes.get(i).copied().unwrap_or(BLANK);
-    }
-    same
-}
+use worked::{BLANK, Verdict, holds_only};
 
 // Whether frame k is taken, as this one byte and no other.
 fn takes<A: Air>(air: &mut A, k: usize, byte: u8) -> bool {
@@ -68,19 +57,11 @@ fn overtaking() -> [(&'static str, bool); 4] {
     ]
 }
 
-fn verdict(held: bool) -> &'static str {
-    if held { "holds" } else { "off" }
-}
-
 fn main(rt: HostRuntime) -> io::Result<()> {
     let airs = overtaking();
-    let mut held = true;
-    for (_, holds) in airs {
-        held = held && holds;
-    }
-    println!(rt; "L {}", verdict(held))?;
-    for (name, holds) in airs {
-        println!(rt; "L on {name}: {}", verdict(holds))?;
+    println!(rt; "L {}", Verdict::from(airs.iter().all(|(_, held)| *held)))?;
+    for (name, held) in airs {
+        println!(rt; "L on {name}: {}", Verdict::from(held))?;
     }
     Ok(())
 }

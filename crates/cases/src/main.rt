@@ -8,9 +8,7 @@ use frame::{Cycles, Format, Frame, LONGEST, Side, hear, write};
 use octets::check_of;
 use refusal::Refusal;
 use std::io;
-
-// What an area holds before anything is written into it.
-const BLANK: u8 = 0xAA;
+use worked::{BLANK, Verdict, holds_only};
 
 // The frames of one side, with cycles of 8.
 fn frames_of(sender: Side) -> Format {
@@ -18,15 +16,6 @@ fn frames_of(sender: Side) -> Format {
         sender,
         cycles: Cycles { ack: 8, number: 8 },
     }
-}
-
-// Whether the area begins with these bytes and is blank behind them.
-fn holds_only(area: &[u8; LONGEST], bytes: &[u8]) -> bool {
-    let mut same = bytes.len() <= LONGEST;
-    for (i, byte) in area.iter().enumerate() {
-        same = same && *byte == bytes.get(i).copied().unwrap_or(BLANK);
-    }
-    same
 }
 
 // Whether a frame of the hut is written as just these bytes, and these bytes are heard as that frame.
@@ -111,14 +100,10 @@ fn rfc_example() -> bool {
     check_of(&[0x00, 0x01, 0xf2, 0x03, 0xf4, 0xf5, 0xf6, 0xf7]) == !0xddf2
 }
 
-fn verdict(held: bool) -> &'static str {
-    if held { "holds" } else { "off" }
-}
-
 fn main(rt: HostRuntime) -> io::Result<()> {
-    println!(rt; "I {}", verdict(bare_frame()))?;
-    println!(rt; "J {}", verdict(note_frame()))?;
-    println!(rt; "K {}", verdict(humidity()))?;
-    println!(rt; "RFC 1071 {}", verdict(rfc_example()))?;
+    println!(rt; "I {}", Verdict::from(bare_frame()))?;
+    println!(rt; "J {}", Verdict::from(note_frame()))?;
+    println!(rt; "K {}", Verdict::from(humidity()))?;
+    println!(rt; "RFC 1071 {}", Verdict::from(rfc_example()))?;
     println!(rt; "shown of the definitions, too: {}", worked::shown())
 }

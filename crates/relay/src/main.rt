@@ -5,84 +5,12 @@
 use air::{Air, Gauge, most_overtaken};
 use element::Kind;
 use element::reading::Reading;
-use frame::{Cycles, Format, Frame, LONGEST, Side, hear, write};
+use frame::{Frame, LONGEST, hear, write};
 use pool::Pool;
 use refusal::Refusal;
-use std::{fmt, io};
+use std::io;
+use telling::{HUT_BOUND, Heard};
 use tight::Tight;
-
-// Hut-bound frames: the mast sends them on a cycle of 11, and acknowledges the other stream's cycle of 17.
-const HUT_BOUND: Format = Format {
-    sender: Side::Mast,
-    cycles: Cycles {
-        ack: 17,
-        number: 11,
-    },
-};
-
-// A number of tenths or hundredths, as people write it.
-#[derive(Clone, Copy)]
-struct Decimal {
-    value: i64,
-    places: u8,
-}
-
-impl fmt::Display for Decimal {
-    fn fmt<W: fmt::Write>(&self, f: &mut fmt::Formatter<W>) -> fmt::Result {
-        let sign = if self.value < 0 { "-" } else { "" };
-        let value = self.value.unsigned_abs();
-        if self.places == 1 {
-            write!(f, "{sign}{}.{}", value / 10, value % 10)
-        } else {
-            write!(f, "{sign}{}.{:02}", value / 100, value % 100)
-        }
-    }
-}
-
-fn tenths(value: i64) -> Decimal {
-    Decimal { value, places: 1 }
-}
-
-fn hundredths(value: i64) -> Decimal {
-    Decimal { value, places: 2 }
-}
-
-// A reading as people read it.
-#[derive(Clone, Copy)]
-struct Told(Reading);
-
-impl fmt::Display for Told {
-    fn fmt<W: fmt::Write>(&self, f: &mut fmt::Formatter<W>) -> fmt::Result {
-        let time = tenths(i64::from(self.0.time));
-        let height = tenths(i64::from(self.0.height));
-        let temperature = hundredths(i64::from(self.0.temperature));
-        let humidity = tenths(i64::from(self.0.humidity));
-        let pressure = tenths(i64::from(self.0.pressure));
-        write!(
-            f,
-            "{time} s, {height} m, {temperature} C, {humidity} %, {pressure} hPa"
-        )
-    }
-}
-
-// What a listener makes of some bytes.
-fn tell_hearing(rt: &impl Print, who: &str, format: Format, bytes: &[u8]) -> anyhow::Result<()> {
-    match hear::<Reading>(format, bytes) {
-        Ok(Frame::Bare { ack }) => println!(rt; "{who} hears acknowledgement {ack} alone.")?,
-        Ok(
-            Frame::Laden {
-                ack,
-                number,
-                element,
-            },
-        ) => {
-            println!(rt; "{who} hears acknowledgement {ack} and reading number {number}:")?;
-            println!(rt; "    {}", Told(element))?
-        }
-        Err(refusal) => println!(rt; "{who} hears nothing: {refusal}.")?,
-    }
-    Ok(())
-}
 
 // The frame with which the mast sends a reading, under a number of its cycle.
 fn carrying(number: u16, element: Reading) -> Frame<Reading> {
@@ -105,13 +33,15 @@ fn tell_answer(
     rt: &impl Print,
     answer: Result<usize, Refusal>,
     area: &[u8; LONGEST],
-) -> anyhow::Result<()> {
+) -> io::Result<()> {
     match answer {
-        Ok(n) => tell_hearing(rt, "The hut", HUT_BOUND, &area[0..n.min(LONGEST)]),
-        Err(refusal) => {
-            println!(rt; "    It is held back: {refusal}.")?;
-            Ok(())
+        Ok(n) => {
+            println!(rt;
+                "{}",
+                Heard::by("The hut", HUT_BOUND, &area[..n.min(LONGEST)])
+            )
         }
+        Err(refusal) => println!(rt; "    It is held back: {refusal}."),
     }
 }
 
@@ -126,7 +56,7 @@ fn tell_waiting<A: Air>(rt: &impl Print, air: &A) -> io::Result<()> {
 }
 
 // A relay that lets the frame at place 1 pass the one before it, and tries to do so again.
-fn tell_passing<A: Air>(rt: &impl Print, air: &mut A) -> anyhow::Result<()> {
+fn tell_passing<A: Air>(rt: &impl Print, air: &mut A) -> io::Result<()> {
     let mut area = [0; LONGEST];
     println!(rt; "It lets the frame behind the oldest pass:")?;
     let answer = air.take(1, &mut area);

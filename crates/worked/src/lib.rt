@@ -1,8 +1,12 @@
-// Worked examples, shown of the definitions that the contracts of the other crates rest on.
+// Worked examples: shown of the definitions that the contracts of the other crates rest on, and verdicts on those that are flown.
 #![tactic(auto)]
 
 ghost use Rattle.std.specs.Prelude.{◌≡◌, codes};
 ghost use Rattle.worked.specs.Worked.{Worked};
+
+mod verdicts;
+
+pub use verdicts::{BLANK, Verdict, holds_only};
 
 // Nothing is done here: that the examples hold of the definitions is what its contract says.
 fn work_out()

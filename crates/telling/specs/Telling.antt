@@ -1,0 +1,55 @@
+-- What is printed of numbers, of readings and of what a listener made of bytes.
+use Rattle.std.specs.Prelude.{ℕ, ℤ, pos, negsuc, ◌/◌, ◌%◌, List, [], ◌++◌, Some, Ok, Err, Option, Result, codes, decimal, unsigned_abs}
+use Rattle.refusal.specs.Refusals.{number_of, place_of, place_shown, reason_of}
+use Rattle.refusal.specs.declared.Refusal.{Refusal}
+use Rattle.element.specs.declared.reading.Reading.{Reading}
+use Rattle.frame.specs.declared.Frame.{Frame}
+use Rattle.frame.specs.declared.Frame.TheVariants.{Bare, Laden}
+use Rattle.telling.specs.declared.Decimal.{Decimal}
+use Rattle.telling.specs.declared.Decimal.TheVariants.{Tenths, Hundredths}
+use Rattle.telling.specs.declared.Told.{Told}
+use Rattle.telling.specs.declared.Heard.{Heard}
+
+-- a minus before a number below 0, and nothing before any other
+abbrev pub sign_text : ℤ → List ℕ
+sign_text (pos n) = []
+sign_text (negsuc n) = codes "-"
+
+-- a number of tenths
+abbrev pub tenths : ℤ → List ℕ
+tenths z = sign_text z ++ (decimal (unsigned_abs z / 10) ++ (codes "." ++ decimal (unsigned_abs z % 10)))
+
+-- a number of hundredths
+abbrev pub hundredths : ℤ → List ℕ
+hundredths z = sign_text z ++ (decimal (unsigned_abs z / 100) ++ (codes "." ++ (decimal (unsigned_abs z / 10 % 10) ++ decimal (unsigned_abs z % 10))))
+
+abbrev pub decimal_text : Decimal → Option (List ℕ)
+decimal_text (Tenths z) = Some (tenths z)
+decimal_text (Hundredths z) = Some (hundredths z)
+
+-- a reading: its fields in their order, each with its unit
+abbrev pub reading_words : Reading → List ℕ
+reading_words r = tenths (pos r.time) ++ (codes " s, " ++ (tenths r.height ++ (codes " m, " ++ (hundredths r.temperature ++ (codes " C, " ++ (tenths (pos r.humidity) ++ (codes " %, " ++ (tenths (pos r.pressure) ++ codes " hPa"))))))))
+
+abbrev pub reading_text : Told Reading → Option (List ℕ)
+reading_text t = Some (reading_words t.0)
+
+-- a frame: its acknowledgement, and its reading under its number where it is laden
+abbrev pub frame_words : Frame Reading → List ℕ
+frame_words (Bare ack) = codes "acknowledgement " ++ (decimal ack ++ codes " alone.")
+frame_words (Laden ack number element) = codes "acknowledgement " ++ (decimal ack ++ (codes " and reading number " ++ (decimal number ++ (codes ":\n    " ++ reading_words element))))
+
+abbrev pub frame_text : Told (Frame Reading) → Option (List ℕ)
+frame_text t = Some (frame_words t.0)
+
+-- a refusal: its number, its place where it has one, and its reason
+abbrev pub refusal_words : Refusal → List ℕ
+refusal_words r = codes "refusal " ++ (decimal (number_of r) ++ (place_shown (place_of r) ++ (codes ": " ++ reason_of r)))
+
+-- an answer, behind the name of who listened
+abbrev pub heard_words : List ℕ → Result (Frame Reading) Refusal → List ℕ
+heard_words who (Ok frame) = who ++ (codes " hears " ++ frame_words frame)
+heard_words who (Err refusal) = who ++ (codes " hears nothing: " ++ (refusal_words refusal ++ codes "."))
+
+abbrev pub heard_text : Heard → Option (List ℕ)
+heard_text h = Some (heard_words h.who.now h.answer)

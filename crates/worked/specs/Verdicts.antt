@@ -1,0 +1,18 @@
+-- When an area holds some bytes and no others, and what is printed of a worked case.
+use Rattle.std.specs.Prelude.{ℕ, Bool, true, false, ◌&&◌, ◌==◌, List, length, take, drop, Some, Option, codes}
+use Rattle.std.specs.List.{list_all}
+use Rattle.std.specs.Cmp.Lexicographic.{pointwise}
+use Rattle.worked.specs.declared.verdicts.Verdict.{Verdict}
+use Rattle.worked.specs.declared.verdicts.Verdict.TheVariants.{Holds, Off}
+
+-- an area begins with these bytes, and each byte behind them is blank
+abbrev pub is_only : List ℕ → List ℕ → Bool
+is_only area bs = pointwise (λ a b. a == b) bs (take (length bs) area) && list_all (λ b. b == 0xAA) (drop (length bs) area)
+
+abbrev pub verdict_of : Bool → Verdict
+verdict_of true = Holds
+verdict_of false = Off
+
+abbrev pub verdict_text : Verdict → Option (List ℕ)
+verdict_text Holds = Some (codes "holds")
+verdict_text Off = Some (codes "off")
