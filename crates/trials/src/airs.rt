@@ -16,12 +16,9 @@ fn check_eq<T: PartialEq + Debug + Drop>(left: T, right: T) -> Result<(), Fail> 
     Err(Fail::new(format_args!("{left:?} is not {right:?}")))
 }
 
-// The number of a refusal; 0 for any other answer.
-fn number<T: Drop>(answer: Result<T, Refusal>) -> u8 {
-    match answer {
-        Ok(_) => 0,
-        Err(refusal) => refusal.number(),
-    }
+// An answer with the number of a refusal in its place.
+fn numbered<T: Drop>(answer: Result<T, Refusal>) -> Result<T, u8> {
+    answer.map_err(Refusal::number)
 }
 
 // An empty air with room for some frames is filled, and then refuses by 6, but a wrong size by 9 first.
@@ -29,58 +26,54 @@ fn fills_up<A: Air>(air: &mut A) -> Result<(), Fail> {
     let capacity = air.capacity();
     for i in 0..capacity {
         check_eq(air.waiting(), i)?;
-        check_eq(number(air.put(&[7; LONGEST])), 0)?;
+        check_eq(air.put(&[7; LONGEST]), Ok(()))?;
     }
     check_eq(air.waiting(), capacity)?;
-    check_eq(number(air.put(&[7])), 6)?;
-    check_eq(number(air.put(&[])), 9)?;
-    check_eq(number(air.put(&[7; 33])), 9)?;
-    check_eq(number(air.lose(capacity)), 7)?;
-    check_eq(number(air.count(capacity)), 7)?;
+    check_eq(numbered(air.put(&[7])), Err(6))?;
+    check_eq(numbered(air.put(&[])), Err(9))?;
+    check_eq(numbered(air.put(&[7; 33])), Err(9))?;
+    check_eq(numbered(air.lose(capacity)), Err(7))?;
+    check_eq(numbered(air.count(capacity)), Err(7))?;
     clear(air);
     check_eq(air.waiting(), 0)
 }
 
-// The first three counts.
-fn three_counts<A: Air>(air: &A) -> (u8, u8, u8) {
-    (
-        air.count(0).unwrap_or(99),
-        air.count(1).unwrap_or(99),
-        air.count(2).unwrap_or(99),
-    )
+// The first three counts, where frames wait.
+fn three_counts<A: Air>(air: &A) -> [Option<u8>; 3] {
+    [air.count(0).ok(), air.count(1).ok(), air.count(2).ok()]
 }
 
 // Repeating raises the counts of older frames alone, up to the bound 2, and writes the front of the area.
 fn repeats<A: Air>(air: &mut A) -> Result<(), Fail> {
     let mut area = [9; LONGEST];
-    check_eq(air.repeat(2, &mut area).ok(), Some(5))?;
+    check_eq(air.repeat(2, &mut area), Ok(5))?;
     check_eq(&area[0..7], b"young\x09\x09".as_slice())?;
-    check_eq(three_counts(air), (1, 1, 0))?;
-    check_eq(air.repeat(1, &mut area).ok(), Some(3))?;
+    check_eq(three_counts(air), [Some(1), Some(1), Some(0)])?;
+    check_eq(air.repeat(1, &mut area), Ok(3))?;
     check_eq(&area[0..7], b"midng\x09\x09".as_slice())?;
-    check_eq(three_counts(air), (2, 1, 0))?;
+    check_eq(three_counts(air), [Some(2), Some(1), Some(0)])?;
     check_eq(most_overtaken(air), 2)
 }
 
 // Where the oldest count is the bound, younger frames are refused by 8, and a place without a frame by 7; nothing changes.
 fn refuses<A: Air>(air: &mut A) -> Result<(), Fail> {
     let mut area = [9; LONGEST];
-    check_eq(number(air.take(2, &mut area)), 8)?;
-    check_eq(number(air.repeat(1, &mut area)), 8)?;
-    check_eq(number(air.take(3, &mut area)), 7)?;
-    check_eq(number(air.repeat(3, &mut area)), 7)?;
+    check_eq(numbered(air.take(2, &mut area)), Err(8))?;
+    check_eq(numbered(air.repeat(1, &mut area)), Err(8))?;
+    check_eq(numbered(air.take(3, &mut area)), Err(7))?;
+    check_eq(numbered(air.repeat(3, &mut area)), Err(7))?;
     check_eq(area, [9; LONGEST])?;
-    check_eq(three_counts(air), (2, 1, 0))
+    check_eq(three_counts(air), [Some(2), Some(1), Some(0)])
 }
 
 // Losing the oldest frees those behind it, and raises no count; taking raises those of older frames.
 fn empties<A: Air>(air: &mut A) -> Result<(), Fail> {
     let mut area = [9; LONGEST];
-    check_eq(number(air.lose(0)), 0)?;
-    check_eq(three_counts(air), (1, 0, 99))?;
-    check_eq(air.take(1, &mut area).ok(), Some(5))?;
-    check_eq(three_counts(air), (2, 99, 99))?;
-    check_eq(air.take(0, &mut area).ok(), Some(3))?;
+    check_eq(air.lose(0), Ok(()))?;
+    check_eq(three_counts(air), [Some(1), Some(0), None])?;
+    check_eq(air.take(1, &mut area), Ok(5))?;
+    check_eq(three_counts(air), [Some(2), None, None])?;
+    check_eq(air.take(0, &mut area), Ok(3))?;
     check_eq(&area[0..7], b"midng\x09\x09".as_slice())?;
     check_eq((most_overtaken(air), air.waiting()), (0, 0))
 }
@@ -157,14 +150,6 @@ fn tight_airs_start_empty() -> Result<(), Fail> {
     check_eq(&area[0..5], b"after".as_slice())
 }
 
-// A length with 0, or the number of a refusal with 0.
-fn outcome(answer: Result<usize, Refusal>) -> (usize, u8) {
-    match answer {
-        Ok(n) => (n, 0),
-        Err(refusal) => (0, refusal.number()),
-    }
-}
-
 // The next number of a fixed sequence that looks random.
 fn next(draw: u32) -> u32 {
     draw.wrapping_mul(1_664_525).wrapping_add(1_013_904_223)
@@ -179,18 +164,15 @@ fn same_call<A: Air, B: Air>(a: &mut A, b: &mut B, draw: u32) -> Result<(), Fail
     let n = (draw >> 12 & 0x7) as usize;
     let bytes = &frame[0..n.min(4)];
     match draw >> 28 {
-        0..=6 => check_eq(number(a.put(bytes)), number(b.put(bytes)))?,
-        7 | 8 => check_eq(number(a.lose(k)), number(b.lose(k)))?,
-        9..=11 => check_eq(
-            outcome(a.repeat(k, &mut one)),
-            outcome(b.repeat(k, &mut other)),
-        )?,
-        _ => check_eq(outcome(a.take(k, &mut one)), outcome(b.take(k, &mut other)))?,
+        0..=6 => check_eq(a.put(bytes), b.put(bytes))?,
+        7 | 8 => check_eq(a.lose(k), b.lose(k))?,
+        9..=11 => check_eq(a.repeat(k, &mut one), b.repeat(k, &mut other))?,
+        _ => check_eq(a.take(k, &mut one), b.take(k, &mut other))?,
     }
     check_eq(one, other)?;
     check_eq(a.waiting(), b.waiting())?;
     for i in 0..17 {
-        check_eq(a.count(i).unwrap_or(99), b.count(i).unwrap_or(99))?;
+        check_eq(a.count(i), b.count(i))?;
     }
     Ok(())
 }

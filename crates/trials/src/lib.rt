@@ -12,6 +12,7 @@ mod tests {
     use element::reading::Reading;
     use frame::{Cycles, Format, Frame, LONGEST, Side, hear, write};
     use octets::check_of;
+    use refusal::Refusal;
     use std::test::Fail;
 
     const CALM: Reading = Reading {
@@ -115,11 +116,13 @@ mod tests {
 
     // The check by a plain sum of words, folded once at the end.
     fn plain_check(bytes: &[u8]) -> u64 {
-        let mut sum: u64 = 0;
-        for (i, byte) in bytes.iter().enumerate() {
-            let weight = if i % 2 == 0 { 256 } else { 1 };
-            sum = sum.saturating_add(weight * u64::from(*byte));
-        }
+        let weights = [256u64, 1];
+        let sum = bytes
+            .iter()
+            .zip(weights.into_iter().cycle())
+            .fold(0u64, |sum, (byte, weight)| {
+                sum.saturating_add(weight.saturating_mul(u64::from(*byte)))
+            });
         65_535 - (sum.saturating_sub(1) % 65_535 + 1)
     }
 
@@ -142,8 +145,18 @@ mod tests {
         assert_eq!(rt; check_of(&[]), 0xffff);
     }
 
-    // A frame of the hut with note 7, after one byte was set and the check mended.
-    fn number_and_place(at: usize, byte: u8) -> Option<(u8, Option<usize>)> {
+    // Whether bytes were heard, or the number and the place of the refusal.
+    fn number_and_place<K: Drop>(
+        answer: Result<Frame<K>, Refusal>,
+    ) -> Result<(), (u8, Option<usize>)> {
+        match answer {
+            Ok(_) => Ok(()),
+            Err(refusal) => Err((refusal.number(), refusal.place())),
+        }
+    }
+
+    // What is heard of a frame of the hut with note 7, after one byte was set and the check mended.
+    fn heard_with_byte(at: usize, byte: u8) -> Result<(), (u8, Option<usize>)> {
         let format = HUT_SENDS;
         let frame = Frame::Laden {
             ack: 1,
@@ -155,59 +168,51 @@ mod tests {
         if at < 17 {
             area[at] = byte;
         }
-        let [high, low] = check_of(&area[0..17]).to_be_bytes();
-        area[17] = high;
-        area[18] = low;
-        match hear::<Order>(format, &area[0..19]) {
-            Ok(_) => None,
-            Err(refusal) => Some((refusal.number(), refusal.place())),
-        }
+        let check = check_of(&area[..17]).to_be_bytes();
+        area[17..19].copy_from_slice(&check);
+        number_and_place(hear::<Order>(format, &area[..19]))
     }
 
     #[test]
     fn frames_with_one_byte_set(rt: HostRuntime) {
         let table = [
-            (0, 0x4E, Some((11, Some(0)))),
-            (4, 2, Some((11, Some(0)))),
-            (5, 0, Some((13, Some(5)))),
-            (5, 1, Some((13, Some(11)))),
-            (5, 3, Some((13, Some(5)))),
-            (6, 1, Some((13, Some(6)))),
-            (8, 7, None),
-            (8, 8, Some((14, Some(7)))),
-            (10, 4, None),
-            (10, 5, Some((14, Some(9)))),
-            (11, 4, Some((13, Some(11)))),
-            (12, 0, Some((15, Some(12)))),
-            (12, 1, Some((15, Some(13)))),
-            (12, 2, None),
-            (13, 0xff, None),
+            (0, 0x4E, Err((11, Some(0)))),
+            (4, 2, Err((11, Some(0)))),
+            (5, 0, Err((13, Some(5)))),
+            (5, 1, Err((13, Some(11)))),
+            (5, 3, Err((13, Some(5)))),
+            (6, 1, Err((13, Some(6)))),
+            (8, 7, Ok(())),
+            (8, 8, Err((14, Some(7)))),
+            (10, 4, Ok(())),
+            (10, 5, Err((14, Some(9)))),
+            (11, 4, Err((13, Some(11)))),
+            (12, 0, Err((15, Some(12)))),
+            (12, 1, Err((15, Some(13)))),
+            (12, 2, Ok(())),
+            (13, 0xff, Ok(())),
         ];
         for (at, byte, expected) in table {
-            assert_eq!(rt; number_and_place(at, byte), expected);
+            assert_eq!(rt; heard_with_byte(at, byte), expected);
         }
     }
 
     // What is heard of so many bytes that begin as a bare frame of the hut does, end with a right check, and are 0 between.
-    fn heard_of_length(n: usize) -> Option<(u8, Option<usize>)> {
+    fn heard_of_length(n: usize) -> Result<(), (u8, Option<usize>)> {
         let mut bytes = [0; 40];
         let n = n.clamp(14, 40);
         bytes[0..7].copy_from_slice(&[0x4D, 0x48, 0x4C, 0, 1, 1, 2]);
-        let [high, low] = check_of(&bytes[0..n - 2]).to_be_bytes();
-        bytes[n - 2] = high;
-        bytes[n - 1] = low;
-        match hear::<Order>(HUT_SENDS, &bytes[0..n]) {
-            Ok(_) => None,
-            Err(refusal) => Some((refusal.number(), refusal.place())),
-        }
+        let check = check_of(&bytes[..n - 2]).to_be_bytes();
+        bytes[n - 2..n].copy_from_slice(&check);
+        number_and_place(hear::<Order>(HUT_SENDS, &bytes[..n]))
     }
 
     #[test]
     fn frames_at_the_ends_of_their_lengths(rt: HostRuntime) -> Result<(), Fail> {
-        assert_eq!(rt; heard_of_length(14), None);
-        assert_eq!(rt; heard_of_length(15), Some((13, Some(11))));
-        assert_eq!(rt; heard_of_length(32), Some((13, Some(11))));
-        assert_eq!(rt; heard_of_length(33), Some((10, Some(0))));
+        assert_eq!(rt; heard_of_length(14), Ok(()));
+        assert_eq!(rt; heard_of_length(15), Err((13, Some(11))));
+        assert_eq!(rt; heard_of_length(32), Err((13, Some(11))));
+        assert_eq!(rt; heard_of_length(33), Err((10, Some(0))));
         let mut area = [0; LONGEST];
         let n = write(HUT_SENDS, &Frame::<Order>::Bare { ack: 7 }, &mut area)?;
         assert_eq!(rt; n, 14);
