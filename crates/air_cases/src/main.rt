@@ -21,10 +21,8 @@ fn is_held_up<A: Air>(air: &mut A, k: usize) -> bool {
     let mut area = [BLANK; LONGEST];
     let waiting = air.waiting();
     let oldest = air.count(0).ok();
-    let refused = match air.take(k, &mut area) {
-        Err(refusal) => refusal.number() == 8 && refusal.place().is_none(),
-        Ok(_) => false,
-    };
+    let refused = air.take(k, &mut area).is_err_and(|refusal| refusal.number() == 8
+        && refusal.place().is_none());
     refused && holds_only(&area, &[]) && air.waiting() == waiting && air.count(0).ok() == oldest
 }
 

@@ -67,15 +67,16 @@ fn too_humid() -> Result<[u8; 28], Refusal> {
         element: humid(1_000),
     };
     write(frames_of(Side::Mast), &frame, &mut area)?;
-    let [high, low] = 1_001u16.to_be_bytes();
-    area[22] = high;
-    area[23] = low;
-    let [high, low] = check_of(&area[0..26]).to_be_bytes();
-    area[26] = high;
-    area[27] = low;
+    [area[22], area[23]] = 1_001u16.to_be_bytes();
+    [area[26], area[27]] = check_of(&area[0..26]).to_be_bytes();
     let mut bytes = [0; 28];
     bytes.copy_from_slice(&area[0..28]);
     Ok(bytes)
+}
+
+// Whether a call refuses by this number and this place.
+fn refuses<T: Drop>(answer: Result<T, Refusal>, number: u8, place: Option<usize>) -> bool {
+    answer.is_err_and(|refusal| refusal.number() == number && refusal.place() == place)
 }
 
 // K: humidity 1,000 is made; 1,001 is refused by 17, and in a frame by 15 at place 22.
@@ -83,16 +84,10 @@ fn humidity() -> bool {
     let Ok(bytes) = too_humid() else {
         return false;
     };
-    let made = humid(1_000).make() == Ok(humid(1_000));
-    let refused = match humid(1_001).make() {
-        Err(refusal) => refusal.number() == 17 && refusal.place().is_none(),
-        Ok(_) => false,
-    };
-    let unheard = match hear::<Reading>(frames_of(Side::Mast), &bytes) {
-        Err(refusal) => refusal.number() == 15 && refusal.place() == Some(22),
-        Ok(_) => false,
-    };
-    made && refused && unheard
+    let heard = hear::<Reading>(frames_of(Side::Mast), &bytes);
+    humid(1_000).make() == Ok(humid(1_000))
+        && refuses(humid(1_001).make(), 17, None)
+        && refuses(heard, 15, Some(22))
 }
 
 // The worked example of RFC 1071: the words sum to ddf2, and the check is its complement.
