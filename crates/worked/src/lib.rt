@@ -8,16 +8,10 @@ mod verdicts;
 
 pub use verdicts::{BLANK, Verdict, holds_only};
 
-// Nothing is done here: that the examples hold of the definitions is what its contract says.
-fn work_out()
-    ensures { Worked }
-{}
-
 // The letters of the cases that are shown of the definitions, by the theorem in this contract.
 pub fn shown() -> &'static str
     ensures letters { result.now ≡ codes "IJK" }
     ensures worked { Worked }
 {
-    work_out();
     "IJK"
 }

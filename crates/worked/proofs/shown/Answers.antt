@@ -1,11 +1,11 @@
 use Rattle.std.proofs.Common.{refl}
 use Rattle.frame.specs.Formats.{frame_bytes}
-use Rattle.worked.proofs.work_out.Goals as goal
+use Rattle.worked.proofs.shown.Goals as goal
 
 -- each example is computed
-pub returns : goal.returns
+pub returns-clause-worked : goal.returns-clause-worked
 unfolding frame_bytes
-returns c =
+returns-clause-worked c =
     record {
       case_i_written = refl;
       case_i_heard = refl;
