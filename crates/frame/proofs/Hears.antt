@@ -1,19 +1,16 @@
 -- What was written is heard as the frame that it was written of.
 use Rattle.std.proofs.Common.{◌≡◌, ℕ, ◌≤◌, List, length, take, Some, None, Ok, Option, Result, sym, refl, ap, ◌∙◌, subst, arith}
-use Rattle.octets.proofs.Fronts.{take-front}
-use Rattle.octets.specs.Areas.{written_unless}
 use Rattle.element.proofs.KindLaws.{in_range_lem, reads_back as element-back}
 use Rattle.element.specs.Kinds.{Coding, fault_of}
-use Rattle.refusal.specs.declared.Refusal.{Refusal}
+use Rattle.refusal.specs.Refusals.{unless}
 use Rattle.frame.specs.Formats.{Wide, frame_bytes, header_of, mapped, past_cycle}
 use Rattle.frame.specs.Reads.{hear_from, understood, with_element}
-use Rattle.frame.specs.Trips.{HeardBack, Sized}
 use Rattle.frame.specs.Writes.{bytes_of, unfit}
 use Rattle.frame.specs.declared.Format.{Format}
 use Rattle.frame.specs.declared.Frame.{Frame}
 use Rattle.frame.specs.declared.Frame.TheVariants.{Bare, Laden}
 use Rattle.frame.proofs.Seals.{length_sealed}
-use Rattle.frame.proofs.Trips.{reads_back}
+use Rattle.frame.proofs.Trips.{passed_unless, reads_back}
 
 module _ {K : Type 0} (kind : Coding K) (format : Format) (exact : (e : K) → length (kind.written e) ≡ kind.width) (returned : (e : K) → fault_of kind e ≡ None → kind.value (kind.written e) ≡ Some e) where
   wide : (f : Frame K) → Wide kind.width (mapped kind.written f)
@@ -39,25 +36,11 @@ module _ {K : Type 0} (kind : Coding K) (format : Format) (exact : (e : K) → l
       let n = length_sealed (header_of format.sender (Laden ack number (kind.written e))) (kind.written e) in
       (omega (arith, n, exact e), omega (arith, n, exact e))
 
-  by_size : (o : Option Refusal) (f : Frame K) (r : Result ℕ Refusal) (old area : List ℕ) → kind.width ≤ 18 → (r, area) ≡ written_unless o (bytes_of kind format f) old → Sized r
-  by_size None f r old area narrow wrote = subst Sized (sym (ap (λ t. t.0) wrote)) (long f narrow)
-  by_size (Some e) f r old area narrow wrote = subst Sized (sym (ap (λ t. t.0) wrote)) tt
-
-  pub sized : (f : Frame K) (r : Result ℕ Refusal) (old area : List ℕ) → kind.width ≤ 18 → (r, area) ≡ written_unless (unfit kind f) (bytes_of kind format f) old → Sized r
-  sized f r old area narrow wrote = by_size (unfit kind f) f r old area narrow wrote
-
-  module _ (acks : format.cycles.ack ≤ 65536) (numbers : format.cycles.number ≤ 65536) (narrow : kind.width ≤ 18) where
-    -- a frame that may be written is heard from its bytes
-    pub hears_back : (f : Frame K) → past_cycle format f ≡ None → unfit kind f ≡ None → hear_from kind format (bytes_of kind format f) ≡ Ok f
-    hears_back f past fit =
-        ap (understood kind) (reads_back format kind.width (mapped kind.written f) acks numbers narrow (wide f) (cycled f past)) ∙ understands f fit
-
-    by_fit : (o : Option Refusal) (f : Frame K) (r : Result ℕ Refusal) (old area : List ℕ) → past_cycle format f ≡ None → unfit kind f ≡ o → (r, area) ≡ written_unless o (bytes_of kind format f) old → HeardBack kind format f area r
-    by_fit None f r old area past fit wrote =
-        let bs = bytes_of kind format f in
-        let front = ap (take (length bs)) (ap (λ t. t.1) wrote) ∙ take-front (length bs) bs old refl in
-        subst (HeardBack kind format f area) (sym (ap (λ t. t.0) wrote)) (ap (hear_from kind format) front ∙ hears_back f past fit)
-    by_fit (Some e) f r old area past fit wrote = subst (HeardBack kind format f area) (sym (ap (λ t. t.0) wrote)) tt
-
-    pub heard_back : (f : Frame K) (r : Result ℕ Refusal) (old area : List ℕ) → past_cycle format f ≡ None → (r, area) ≡ written_unless (unfit kind f) (bytes_of kind format f) old → HeardBack kind format f area r
-    heard_back f r old area past wrote = by_fit (unfit kind f) f r old area past refl wrote
+  -- the bytes of a frame that may be written: how many they are, and what is heard from them
+  pub heard_back : (f : Frame K) (bs : List ℕ) → format.cycles.ack ≤ 65536 → format.cycles.number ≤ 65536 → kind.width ≤ 18 → unless {A = Unit {0}} tt (past_cycle format f) ≡ Ok tt → unless (bytes_of kind format f) (unfit kind f) ≡ Ok bs → (14 ≤ length bs) × (length bs ≤ 32) × (hear_from kind format bs ≡ Ok f)
+  heard_back f bs acks numbers narrow past fit =
+      let cycle = passed_unless (past_cycle format f) _ _ past in
+      let fits = passed_unless (unfit kind f) (bytes_of kind format f) bs fit in
+      let size = long f narrow in
+      let whole = reads_back format kind.width (mapped kind.written f) acks numbers narrow (wide f) (cycled f cycle.1) in
+      (omega (arith, ap length fits.0), omega (arith, ap length fits.0), ap (hear_from kind format) (sym fits.0) ∙ ap (understood kind) whole ∙ understands f fits.1)

@@ -6,4 +6,3 @@ pub mod ReadLaws
 pub mod Seals
 pub mod Smallest
 pub mod Trips
-pub mod Writes

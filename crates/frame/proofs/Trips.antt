@@ -61,14 +61,15 @@ reads_back format w f a n h wide cycled =
 passed : {A : Type 0} (b : Bool) (x : Refusal) (y : Result A Refusal) (f : A) → cond b (Err x) y ≡ Ok f → (b ≡ false) × (y ≡ Ok f)
 passed b x y f h = grind arith
 
-by_refusal : {A : Type 0} (o : Option Refusal) (x y : A) → unless x o ≡ Ok y → (x ≡ y) × (o ≡ None)
-by_refusal None x y h = (cc, refl)
-by_refusal (Some r) x y h = let z : ◌≡◌ {A = ℕ} 0 1 = cc in absurd (omega arith)
+-- an answer that there was no cause to refuse
+pub passed_unless : {A : Type 0} (o : Option Refusal) (x y : A) → unless x o ≡ Ok y → (x ≡ y) × (o ≡ None)
+passed_unless None x y h = (cc, refl)
+passed_unless (Some r) x y h = let z : ◌≡◌ {A = ℕ} 0 1 = cc in absurd (omega arith)
 
 -- what a frame on its cycles was before they were looked at
 cycled_from : (format : Format) (r : Result (Frame (List ℕ)) Refusal) (f : Frame (List ℕ)) → on_cycle format r ≡ Ok f → (r ≡ Ok f) × (past_cycle format f ≡ None)
 cycled_from format (Ok g) f h =
-    let same = by_refusal (past_cycle format g) g f h in
+    let same = passed_unless (past_cycle format g) g f h in
     (ap (λ x. Ok x) same.0, ap (past_cycle format) (sym same.0) ∙ same.1)
 cycled_from format (Err e) f h = let z : ◌≡◌ {A = ℕ} 0 1 = cc in absurd (omega arith)
 

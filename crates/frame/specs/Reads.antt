@@ -12,6 +12,9 @@ use Rattle.frame.specs.declared.Frame.{Frame}
 use Rattle.frame.specs.declared.Frame.TheVariants.{Bare, Laden}
 use Rattle.frame.specs.declared.Side.{Side}
 use Rattle.frame.specs.declared.header.Header.{Header}
+use Rattle.frame.specs.declared.header.Tag.{Tag}
+use Rattle.frame.specs.declared.header.Tag.TheVariants.{Bare as BareTag, Laden as LadenTag}
+use Rattle.frame.specs.declared.reader.Parts.{Parts}
 
 -- whether the last two of some bytes are the check of those before
 abbrev pub is_sealed : List ℕ → Bool
@@ -34,6 +37,10 @@ header_in bs = record {
 -- the bytes between the header and the check
 abbrev pub carried_in : List ℕ → List ℕ
 carried_in bs = take (length bs - 14) (drop 12 bs)
+
+-- the tag that a byte stands for
+abbrev pub tag_in : ℕ → Result Tag Refusal
+tag_in byte = cond (byte == 1) (Ok BareTag) (cond (byte == 2) (Ok LadenTag) (Err (WrongField 5)))
 
 -- a bare frame: no number, no width, and nothing carried
 abbrev pub bare_in : Header → List ℕ → Result (Frame (List ℕ)) Refusal
@@ -67,10 +74,10 @@ parts_in bs =
     (cond (not (is_marked bs)) (Err MarkOrVersion)
     (Ok (header_in bs, carried_in bs)))
 
--- the same parts with another form of what is carried
-abbrev pub parts_seen : {A B : Type 0} → (A → B) → Result (Header × A) Refusal → Result (Header × B) Refusal
-parts_seen f (Ok p) = Ok (p.0, f p.1)
-parts_seen f (Err r) = Err r
+-- the parts that were found, with the bytes that a reference to what is carried points to
+abbrev pub parts_seen : Result Parts Refusal → Result (Header × List ℕ) Refusal
+parts_seen (Ok p) = Ok (p.header, p.element.now)
+parts_seen (Err r) = Err r
 
 -- the frame in some bytes, for a kind that is so wide
 abbrev pub read_from : Format → ℕ → List ℕ → Result (Frame (List ℕ)) Refusal

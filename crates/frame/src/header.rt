@@ -1,8 +1,10 @@
 // The header of a frame: its first twelve bytes.
 ghost use Rattle.std.specs.Prelude.{◌≡◌};
 ghost use Rattle.frame.specs.Formats.{header_bytes, sender_byte};
+ghost use Rattle.frame.specs.Reads.{tag_in};
 
 use crate::Side;
+use refusal::Refusal;
 
 // The fields of a header, behind the mark and the version.
 #[derive(Clone, Copy)]
@@ -20,19 +22,39 @@ pub(crate) const VERSION: u8 = 1;
 // How many bytes a header has.
 pub(crate) const HEADER: usize = 12;
 
-// The tag of a frame with an acknowledgement alone.
-pub(crate) const BARE: u8 = 1;
+// What a frame carries, by the number that stands for it in the header.
+#[derive(Clone, Copy, PartialEq, Eq, Debug)]
+pub(crate) enum Tag {
+    // An acknowledgement alone.
+    Bare = 1,
+    // An acknowledgement and an element.
+    Laden = 2,
+}
 
-// The tag of a frame with an element.
-pub(crate) const LADEN: u8 = 2;
+// The tag that a byte stands for.
+impl TryFrom<u8> for Tag {
+    type Error = Refusal;
+
+    ghost try_from_gives = { λ byte tag. tag ≡ tag_in byte };
+
+    fn try_from(byte: u8) -> Result<Tag, Refusal> {
+        match byte {
+            1 => Ok(Tag::Bare),
+            2 => Ok(Tag::Laden),
+            _ => Err(Refusal::WrongField { place: 5 }),
+        }
+    }
+}
 
 // The byte that names a side as the sender.
-pub(crate) fn sender_byte(side: Side) -> u8
-    ensures { result ≡ sender_byte side }
-{
-    match side {
-        Side::Mast => 1,
-        Side::Hut => 2,
+impl From<Side> for u8 {
+    ghost from_gives = { λ side byte. byte ≡ sender_byte side };
+
+    fn from(side: Side) -> u8 {
+        match side {
+            Side::Mast => 1,
+            Side::Hut => 2,
+        }
     }
 }
 

@@ -48,39 +48,33 @@ pub enum Frame<E> {
     Laden { ack: u16, number: u16, element: E },
 }
 
-// The refusal of a number, at its place, that is not below its cycle.
-fn past(place: usize, number: u16, cycle: u16) -> Option<Refusal>
-    ensures { result ≡ past_at place number cycle }
+// Refuses a number, at its place, that is not below its cycle.
+fn below(place: usize, number: u16, cycle: u16) -> Result<(), Refusal>
+    ensures { result ≡ unless tt (past_at place number cycle) }
 {
     if number < cycle {
-        return None;
+        Ok(())
+    } else {
+        Err(Refusal::NumberPastCycle { place })
     }
-    Some(Refusal::NumberPastCycle { place })
 }
 
 impl<E> Frame<E> {
-    // The refusal of a frame whose acknowledgement, at place 7, or number, at place 9, is not below its cycle.
-    fn past_cycle(&self, format: Format) -> Option<Refusal>
-        ensures { result ≡ past_cycle format self.now }
+    // Refuses a frame whose acknowledgement, at place 7, or number, at place 9, is not below its cycle.
+    fn on_cycle(&self, format: Format) -> Result<(), Refusal>
+        ensures { result ≡ unless tt (past_cycle format self.now) }
     {
         let cycles = format.cycles;
         match self {
-            Frame::Bare { ack } => past(7, *ack, cycles.ack),
+            Frame::Bare { ack } => below(7, *ack, cycles.ack),
             Frame::Laden {
                 ack,
                 number,
                 element: _,
-            } => past(7, *ack, cycles.ack).or(past(9, *number, cycles.number)),
-        }
-    }
-
-    // Refuses a frame with a number that is not below its cycle.
-    fn on_cycle(&self, format: Format) -> Result<(), Refusal>
-        ensures { result ≡ unless tt (past_cycle format self.now) }
-    {
-        match self.past_cycle(format) {
-            Some(refusal) => Err(refusal),
-            None => Ok(()),
+            } => {
+                below(7, *ack, cycles.ack)?;
+                below(9, *number, cycles.number)
+            }
         }
     }
 }
