@@ -1,6 +1,5 @@
 pub mod Damages
 pub mod Hears
-pub mod Middles
 pub mod Parts
 pub mod ReadLaws
 pub mod Seals

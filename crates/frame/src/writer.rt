@@ -20,7 +20,7 @@ fn sealed(header: Header, element: &[u8]) -> ArrayVec<u8, LONGEST>
     let mut bytes = ArrayVec::new();
     bytes.try_extend_from_slice(&header.bytes()).unwrap();
     bytes.try_extend_from_slice(element).unwrap();
-    let check = check_of(bytes.as_slice()).to_be_bytes();
+    let check = check_of(&bytes).to_be_bytes();
     bytes.try_extend_from_slice(&check).unwrap();
     bytes
 }
@@ -31,35 +31,23 @@ impl<K: Kind> Frame<K> {
     fn bytes(&self, sender: Side) -> Result<ArrayVec<u8, LONGEST>, Refusal>
         ensures { items_in result ≡ unless (frame_bytes sender (mapped K.coding.written self.now)) (unfit K.coding self.now) }
     {
-        let sender = u8::from(sender);
-        match *self {
-            Frame::Bare { ack } => {
-                let header = Header {
-                    tag: Tag::Bare as u8,
-                    sender,
-                    ack,
-                    number: 0,
-                    width: 0,
-                };
-                Ok(sealed(header, &[]))
-            }
+        let mut area = [0; WIDEST];
+        let (tag, ack, number, width) = match *self {
+            Frame::Bare { ack } => (Tag::Bare, ack, 0, 0),
             Frame::Laden {
                 ack,
                 number,
                 element,
-            } => {
-                let mut area = [0; WIDEST];
-                let width = element.write(&mut area)?;
-                let header = Header {
-                    tag: Tag::Laden as u8,
-                    sender,
-                    ack,
-                    number,
-                    width: width as u8,
-                };
-                Ok(sealed(header, &area[..width]))
-            }
-        }
+            } => (Tag::Laden, ack, number, element.write(&mut area)?),
+        };
+        let header = Header {
+            tag: tag as u8,
+            sender: u8::from(sender),
+            ack,
+            number,
+            width: width as u8,
+        };
+        Ok(sealed(header, &area[..width]))
     }
 }
 
@@ -75,6 +63,6 @@ pub fn write<K: Kind>(
 {
     frame.on_cycle(format)?;
     let bytes = frame.bytes(format.sender)?;
-    area[..bytes.len()].copy_from_slice(bytes.as_slice());
+    area[..bytes.len()].copy_from_slice(&bytes);
     Ok(bytes.len())
 }
