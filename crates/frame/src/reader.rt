@@ -31,11 +31,13 @@ struct Parts<'a> {
     element: &'a [u8],
 }
 
-impl<'a> Parts<'a> {
-    // The parts of bytes that are 14 to 32 and begin with the mark and the version.
-    fn of(bytes: &'a [u8]) -> Result<Parts<'a>, Refusal>
-        ensures { parts_seen result ≡ parts_in bytes.now }
-    {
+// The parts of bytes that are 14 to 32 and begin with the mark and the version.
+impl<'a> TryFrom<&'a [u8]> for Parts<'a> {
+    type Error = Refusal;
+
+    ghost try_from_gives = { λ bytes parts. parts_seen parts ≡ parts_in bytes.now };
+
+    fn try_from(bytes: &'a [u8]) -> Result<Parts<'a>, Refusal> {
         if bytes.len() < SHORTEST || bytes.len() > LONGEST {
             return Err(Refusal::FrameLength);
         }
@@ -68,7 +70,9 @@ impl<'a> Parts<'a> {
         };
         Ok(Parts { header, element })
     }
+}
 
+impl<'a> Parts<'a> {
     // The bare frame that the header says.
     fn bare(self) -> Result<Frame<&'a [u8]>, Refusal>
         ensures { answered (λ e. e.now) result ≡ bare_in self.entry.header self.entry.element.now }
@@ -130,7 +134,7 @@ pub fn read<'a, K: Kind>(format: Format, bytes: &'a [u8]) -> Result<Frame<&'a [u
     ensures safe { is_ok result ≡ true → OneByteSafe format K.coding.width bytes.now }
     ensures smallest { SmallestFirst format K.coding.width bytes.now result }
 {
-    let parts = Parts::of(bytes)?;
+    let parts = Parts::try_from(bytes)?;
     if !is_sealed(bytes) {
         return Err(Refusal::WrongCheck {
             place: bytes.len() - 2,

@@ -26,8 +26,8 @@ fn sealed(header: Header, element: &[u8]) -> ArrayVec<u8, LONGEST>
 }
 
 impl<K: Kind> Frame<K> {
-    #[tactic(auto, unfolding(crate::specs::Formats::frame_bytes))]
     // The frame's bytes, whatever its numbers; refused where a field of its element is out of range.
+    #[tactic(auto, unfolding(crate::specs::Formats::frame_bytes))]
     fn bytes(&self, sender: Side) -> Result<ArrayVec<u8, LONGEST>, Refusal>
         ensures { items_in result ≡ unless (frame_bytes sender (mapped K.coding.written self.now)) (unfit K.coding self.now) }
     {

@@ -11,7 +11,7 @@ returns-in_err-parts g c =
     let format = c.args.format in
     let bytes = c.args.bytes.now in
     let w = g.K.Kind.coding.width in
-    let parts = by_parts format w bytes (parts_seen c.of.result) c.of.ensures in
+    let parts = by_parts format w bytes (parts_seen c.try_from.result) c.try_from.ensures in
     let answer : answered (λ e. e.now) c.from_residual.result ≡ read_from format w bytes = search rules in
     let laws = read_laws format w bytes _ _ (All-from_get_or (λ b. b < 256) bytes 0 (λ i h. search rules)) answer in
     record { answer = answer; only = laws.0; safe = laws.1; smallest = laws.2 }
@@ -21,7 +21,7 @@ returns g c =
     let format = c.args.format in
     let bytes = c.args.bytes.now in
     let w = g.K.Kind.coding.width in
-    let parts = by_parts format w bytes (parts_seen c.of.result) c.of.ensures in
+    let parts = by_parts format w bytes (parts_seen c.try_from.result) c.try_from.ensures in
     let answer : answered (λ e. e.now) c.frame.result ≡ read_from format w bytes = search rules in
     let laws = read_laws format w bytes _ _ (All-from_get_or (λ b. b < 256) bytes 0 (λ i h. search rules)) answer in
     record { answer = answer; only = laws.0; safe = laws.1; smallest = laws.2 }
