@@ -1,6 +1,5 @@
 pub mod Damages
 pub mod Hears
-pub mod Parts
 pub mod ReadLaws
 pub mod Seals
 pub mod Smallest
