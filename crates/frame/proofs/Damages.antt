@@ -1,5 +1,5 @@
 -- A frame in which one byte was changed is not read.
-use Rattle.std.proofs.Common.{◌≡◌, ℕ, ◌+◌, ◌-◌, ◌<◌, ◌≤◌, Bool, true, false, ◌≢◌, List, length, get_or, take, set, is_ok, Ok, Err, Result, sym, refl, ap, ◌∙◌, inl, inr, arith, length-set, length-take, get_or-set_other, get_or-take, get_or-set_same}
+use Rattle.std.proofs.Common.{◌≡◌, ℕ, ◌+◌, ◌-◌, ◌<◌, ◌≤◌, true, false, ◌≢◌, List, length, get_or, take, set, is_ok, Ok, Err, Result, sym, refl, ap, ◌∙◌, inl, inr, arith, length-set, length-take, get_or-set_other, get_or-take, get_or-set_same}
 use lib.Seq.{take-set-le, take-set-lt}
 use Rattle.std.specs.List.{AllByRecursion}
 use Rattle.std.proofs.lemmas.Bool.{cases_eq, cases_lt}
@@ -81,4 +81,4 @@ one_byte_safe format w f bs all h =
 -- the same of what the frame's bytes are a part of
 pub safe_read : {A : Type 0} (format : Format) (w : ℕ) (bs : List ℕ) (f : A → List ℕ) (r : Result (Frame A) Refusal) → AllByRecursion (λ b. b < 256) bs → read_from format w bs ≡ answered f r → is_ok r ≡ true → OneByteSafe format w bs
 safe_read format w bs f (Ok x) all h ok = one_byte_safe format w (mapped f x) bs all h
-safe_read format w bs f (Err e) all h ok = let z : ◌≡◌ {A = Bool} false true = ok in absurd (let y : ◌≡◌ {A = ℕ} 0 1 = cc in omega arith)
+safe_read format w bs f (Err e) all h ok = cc

@@ -1,5 +1,5 @@
 -- What was written is heard as the frame that it was written of.
-use Rattle.std.proofs.Common.{◌≡◌, ℕ, ◌≤◌, List, length, take, Some, None, Ok, Option, Result, sym, refl, ap, ◌∙◌, subst, arith}
+use Rattle.std.proofs.Common.{◌≡◌, ℕ, ◌≤◌, List, length, Some, None, Ok, sym, refl, ap, ◌∙◌, arith}
 use Rattle.element.proofs.KindLaws.{in_range_lem, reads_back as element-back}
 use Rattle.element.specs.Kinds.{Coding, fault_of}
 use Rattle.refusal.specs.Refusals.{unless}
@@ -14,12 +14,10 @@ use Rattle.frame.proofs.Trips.{passed_unless, reads_back}
 
 module _ {K : Type 0} (kind : Coding K) (format : Format) (exact : (e : K) → length (kind.written e) ≡ kind.width) (returned : (e : K) → fault_of kind e ≡ None → kind.value (kind.written e) ≡ Some e) where
   wide : (f : Frame K) → Wide kind.width (mapped kind.written f)
-  wide (Bare ack) = tt
-  wide (Laden ack number e) = exact e
+  wide f = grind (arith, exact)
 
   cycled : (f : Frame K) → past_cycle format f ≡ None → past_cycle format (mapped kind.written f) ≡ None
-  cycled (Bare ack) h = h
-  cycled (Laden ack number e) h = h
+  cycled f h = grind arith
 
   -- the element comes back from its bytes
   understands : (f : Frame K) → unfit kind f ≡ None → understood kind (Ok (mapped kind.written f)) ≡ Ok f

@@ -1,5 +1,5 @@
 -- What holds of every answer of reading, by the parts of the bytes.
-use Rattle.std.proofs.Common.{◌≡◌, ℕ, ◌-◌, ◌<◌, Bool, true, false, cond, not, ◌||◌, ltb, List, length, get_or, is_ok, Ok, Err, Result, sym, refl, ap, ◌∙◌}
+use Rattle.std.proofs.Common.{◌≡◌, ℕ, ◌-◌, ◌<◌, Bool, true, cond, not, ◌||◌, ltb, List, length, get_or, is_ok, Ok, Err, Result, sym, refl, ap, ◌∙◌, arith}
 use Rattle.std.proofs.ByRecursion.{All-from_get_or}
 use Rattle.refusal.specs.declared.Refusal.{Refusal}
 use Rattle.refusal.specs.declared.Refusal.TheVariants.{FrameLength, MarkOrVersion, WrongCheck}
@@ -21,9 +21,7 @@ from_parts format w bs (Err r) = Err r
 
 -- two tests, and then what comes behind them
 tests : {A B : Type 0} (a b : Bool) (x y : Refusal) (p : A) (f : Result A Refusal → Result B Refusal) (r : Result B Refusal) → f (Err x) ≡ Err x → f (Err y) ≡ Err y → f (Ok p) ≡ r → cond a (Err x) (cond b (Err y) r) ≡ f (cond a (Err x) (cond b (Err y) (Ok p)))
-tests true b x y p f r k l m = sym k
-tests false true x y p f r k l m = sym l
-tests false false x y p f r k l m = sym m
+tests a b x y p f r k l m = grind arith
 
 by_parts : (format : Format) (w : ℕ) (bs : List ℕ) → read_from format w bs ≡ from_parts format w bs (parts_in bs)
 by_parts format w bs =

@@ -1,5 +1,5 @@
 -- The smallest refusal that applies is told.
-use Rattle.std.proofs.Common.{◌≡◌, ℕ, ◌-◌, Bool, true, false, cond, not, ◌||◌, ltb, List, length, Some, Ok, Err, Option, Result, refl, ap, ◌∙◌, arith}
+use Rattle.std.proofs.Common.{◌≡◌, ℕ, ◌-◌, Bool, cond, not, ◌||◌, ltb, List, length, Some, Err, Option, Result, refl, ap, ◌∙◌, arith}
 use Rattle.std.proofs.lemmas.Bool.Decides.{nat_tests}
 use Rattle.refusal.specs.declared.Refusal.{Refusal}
 use Rattle.refusal.specs.declared.Refusal.TheVariants.{FrameLength, MarkOrVersion, WrongCheck}
@@ -15,8 +15,7 @@ by_header format w h e = grind (arith, nat_tests)
 
 -- a test in front
 tested : {A : Type 0} (b : Bool) (x : Refusal) (r : Result A Refusal) (o : Option Refusal) → refusal_in r ≡ o → refusal_in (cond b (Err x) r) ≡ cond b (Some x) o
-tested true x r o h = refl
-tested false x r o h = h
+tested b x r o h = grind arith
 
 by_bytes : (format : Format) (w : ℕ) (bs : List ℕ) → refusal_in (read_from format w bs) ≡ first_cause (causes format w bs)
 by_bytes format w bs =
@@ -26,8 +25,7 @@ by_bytes format w bs =
 
 -- another form of the element does not change the refusal
 same_refusal : {A B : Type 0} (f : A → B) (r : Result (Frame A) Refusal) → refusal_in r ≡ refusal_in (answered f r)
-same_refusal f (Ok x) = refl
-same_refusal f (Err e) = refl
+same_refusal f r = grind arith
 
 pub smallest_first : {A : Type 0} (format : Format) (w : ℕ) (bs : List ℕ) (f : A → List ℕ) (r : Result (Frame A) Refusal) → answered f r ≡ read_from format w bs → SmallestFirst format w bs r
 smallest_first format w bs f r same =

@@ -1,5 +1,5 @@
 -- Reading what was written, and writing what was read.
-use Rattle.std.proofs.Common.{◌≡◌, ℕ, ◌+◌, ◌-◌, ◌<◌, ◌≤◌, Bool, true, false, cond, not, ◌||◌, ltb, List, ◌++◌, length, get_or, take, Some, None, Ok, Err, Option, Result, sym, refl, ap, ◌∙◌, arith}
+use Rattle.std.proofs.Common.{◌≡◌, ℕ, ◌+◌, ◌-◌, ◌<◌, ◌≤◌, Bool, true, false, cond, not, ◌||◌, ltb, List, ◌++◌, length, get_or, take, None, Ok, Err, Option, Result, sym, refl, ap, ◌∙◌, arith}
 use Rattle.std.specs.List.{AllByRecursion}
 use Rattle.std.proofs.lemmas.List.{nil_from_length, take_at}
 use Rattle.std.proofs.lemmas.Bool.{or_parts, ltb-false, not-false}
@@ -38,17 +38,14 @@ reads_header format w h e narrow a n =
 
 -- the header of a frame says that frame
 said : (side : Side) (w : ℕ) (f : Frame (List ℕ)) → Wide w f → frame_in side w (header_of side f) (payload f) ≡ Ok f
-said side w (Bare ack) h = grind (arith, nat_tests)
-said side w (Laden ack number element) h = grind (arith, nat_tests)
+said side w f h = grind (arith, nat_tests)
 
 -- a frame whose numbers are below cycles of 16 bits, by its header
 small : (format : Format) (f : Frame (List ℕ)) → format.cycles.ack ≤ 65536 → format.cycles.number ≤ 65536 → past_cycle format f ≡ None → ((header_of format.sender f).ack < 65536) × ((header_of format.sender f).number < 65536)
-small format (Bare ack) a n h = grind (arith, nat_tests)
-small format (Laden ack number element) a n h = grind (arith, nat_tests)
+small format f a n h = grind (arith, nat_tests)
 
 narrow : (w : ℕ) (f : Frame (List ℕ)) → w ≤ 18 → Wide w f → length (payload f) ≤ 18
-narrow w (Bare ack) h p = omega arith
-narrow w (Laden ack number element) h p = omega arith
+narrow w f h p = grind arith
 
 -- the bytes of a frame are read as that frame
 pub reads_back : (format : Format) (w : ℕ) (f : Frame (List ℕ)) → format.cycles.ack ≤ 65536 → format.cycles.number ≤ 65536 → w ≤ 18 → Wide w f → past_cycle format f ≡ None → read_from format w (frame_bytes format.sender f) ≡ Ok f
@@ -63,15 +60,14 @@ passed b x y f h = grind arith
 
 -- an answer that there was no cause to refuse
 pub passed_unless : {A : Type 0} (o : Option Refusal) (x y : A) → unless x o ≡ Ok y → (x ≡ y) × (o ≡ None)
-passed_unless None x y h = (cc, refl)
-passed_unless (Some r) x y h = let z : ◌≡◌ {A = ℕ} 0 1 = cc in absurd (omega arith)
+passed_unless o x y h = grind arith
 
 -- what a frame on its cycles was before they were looked at
 cycled_from : (format : Format) (r : Result (Frame (List ℕ)) Refusal) (f : Frame (List ℕ)) → on_cycle format r ≡ Ok f → (r ≡ Ok f) × (past_cycle format f ≡ None)
 cycled_from format (Ok g) f h =
     let same = passed_unless (past_cycle format g) g f h in
     (ap (λ x. Ok x) same.0, ap (past_cycle format) (sym same.0) ∙ same.1)
-cycled_from format (Err e) f h = let z : ◌≡◌ {A = ℕ} 0 1 = cc in absurd (omega arith)
+cycled_from format (Err e) f h = cc
 
 -- what the header of an accepted frame says
 bare_from : (side : Side) (w ack : ℕ) (h : Header) (e : List ℕ) → frame_in side w h e ≡ Ok (Bare ack) → (1 ≡ h.tag) × (sender_byte side ≡ h.sender) × (ack ≡ h.ack) × (0 ≡ h.number) × (0 ≡ h.width) × (length e ≡ 0)
