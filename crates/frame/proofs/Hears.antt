@@ -1,14 +1,13 @@
 -- What was written is heard as the frame that it was written of.
-use Rattle.std.proofs.Common.{◌≡◌, ℕ, ◌≤◌, List, length, Some, None, Ok, sym, refl, ap, ◌∙◌, arith}
-use Rattle.element.proofs.KindLaws.{in_range_lem, reads_back as element-back}
+use Rattle.std.proofs.Common.{◌≡◌, ℕ, ◌≤◌, List, length, Some, None, Ok, sym, ap, ◌∙◌, arith}
+use Rattle.element.proofs.KindLaws.{in_range_lem}
 use Rattle.element.specs.Kinds.{Coding, fault_of}
 use Rattle.refusal.specs.Refusals.{unless}
-use Rattle.frame.specs.Formats.{Wide, frame_bytes, header_of, mapped, past_cycle}
-use Rattle.frame.specs.Reads.{hear_from, understood, with_element}
+use Rattle.frame.specs.Formats.{Wide, frame_bytes, mapped, past_cycle}
+use Rattle.frame.specs.Reads.{hear_from, understood}
 use Rattle.frame.specs.Writes.{bytes_of, unfit}
 use Rattle.frame.specs.declared.Format.{Format}
 use Rattle.frame.specs.declared.Frame.{Frame}
-use Rattle.frame.specs.declared.Frame.TheVariants.{Bare, Laden}
 use Rattle.frame.proofs.Seals.{length_sealed}
 use Rattle.frame.proofs.Trips.{passed_unless, reads_back}
 
@@ -21,18 +20,12 @@ module _ {K : Type 0} (kind : Coding K) (format : Format) (exact : (e : K) → l
 
   -- the element comes back from its bytes
   understands : (f : Frame K) → unfit kind f ≡ None → understood kind (Ok (mapped kind.written f)) ≡ Ok f
-  understands (Bare ack) h = refl
-  understands (Laden ack number e) h =
-      let fine = in_range_lem (fault_of kind e) h in
-      ap (with_element kind ack number) (element-back kind e fine (returned e fine))
+  understands f h = grind (arith, returned, in_range_lem)
 
   -- how many bytes a frame has
   long : (f : Frame K) → kind.width ≤ 18 → (14 ≤ length (bytes_of kind format f)) × (length (bytes_of kind format f) ≤ 32)
   unfolding frame_bytes
-  long (Bare ack) narrow = (omega arith, omega arith)
-  long (Laden ack number e) narrow =
-      let n = length_sealed (header_of format.sender (Laden ack number (kind.written e))) (kind.written e) in
-      (omega (arith, n, exact e), omega (arith, n, exact e))
+  long f narrow = grind (arith, exact, length_sealed)
 
   -- the bytes of a frame that may be written: how many they are, and what is heard from them
   pub heard_back : (f : Frame K) (bs : List ℕ) → format.cycles.ack ≤ 65536 → format.cycles.number ≤ 65536 → kind.width ≤ 18 → unless {A = Unit {0}} tt (past_cycle format f) ≡ Ok tt → unless (bytes_of kind format f) (unfit kind f) ≡ Ok bs → (14 ≤ length bs) × (length bs ≤ 32) × (hear_from kind format bs ≡ Ok f)

@@ -1,8 +1,8 @@
 -- Reading what was written, and writing what was read.
-use Rattle.std.proofs.Common.{◌≡◌, ℕ, ◌+◌, ◌-◌, ◌<◌, ◌≤◌, Bool, true, false, cond, not, ◌||◌, ltb, List, ◌++◌, length, get_or, take, None, Ok, Err, Option, Result, sym, refl, ap, ◌∙◌, arith}
+use Rattle.std.proofs.Common.{◌≡◌, ℕ, ◌+◌, ◌-◌, ◌<◌, ◌≤◌, Bool, true, false, cond, not, ◌||◌, ltb, List, ◌++◌, length, get_or, take, None, Ok, Err, Option, Result, refl, ap, ◌∙◌, arith}
 use Rattle.std.specs.List.{AllByRecursion}
 use Rattle.std.proofs.lemmas.List.{nil_from_length, take_at}
-use Rattle.std.proofs.lemmas.Bool.{or_parts, ltb-false, not-false}
+use Rattle.std.proofs.lemmas.Bool.{or_parts, ltb-false}
 use Rattle.std.proofs.lemmas.Bool.Decides.{nat_tests}
 use Rattle.octets.proofs.Heads.{take_heads}
 use Rattle.octets.proofs.Numbers.{number_bytes16, part16}
@@ -11,12 +11,11 @@ use Rattle.octets.specs.Numbers.{bytes16}
 use Rattle.refusal.specs.Refusals.{unless}
 use Rattle.refusal.specs.declared.Refusal.{Refusal}
 use Rattle.refusal.specs.declared.Refusal.TheVariants.{FrameLength, MarkOrVersion}
-use Rattle.frame.specs.Formats.{Wide, frame_bytes, header_bytes, header_of, past_cycle, payload, sealed_bytes, sender_byte}
+use Rattle.frame.specs.Formats.{Wide, frame_bytes, header_bytes, header_of, past_cycle, payload, sealed_bytes}
 use Rattle.frame.specs.Reads.{carried_in, frame_in, header_in, is_marked, is_sealed, on_cycle, read_from}
 use Rattle.frame.specs.Trips.{OnlyWritten}
 use Rattle.frame.specs.declared.Format.{Format}
 use Rattle.frame.specs.declared.Frame.{Frame}
-use Rattle.frame.specs.declared.Frame.TheVariants.{Bare, Laden}
 use Rattle.frame.specs.declared.Side.{Side}
 use Rattle.frame.specs.declared.header.Header.{Header}
 use Rattle.frame.proofs.Seals.{length_sealed, sealed_back, sealed_whole}
@@ -54,9 +53,9 @@ reads_back format w f a n h wide cycled =
     let s = small format f a n cycled in
     reads_header format w (header_of format.sender f) (payload f) (narrow w f h wide) s.0 s.1 ∙ ap (on_cycle format) (said format.sender w f wide) ∙ ap (unless f) cycled
 
--- a test that did not refuse
-passed : {A : Type 0} (b : Bool) (x : Refusal) (y : Result A Refusal) (f : A) → cond b (Err x) y ≡ Ok f → (b ≡ false) × (y ≡ Ok f)
-passed b x y f h = grind arith
+-- what three tests say that did not refuse
+passed : {A : Type 0} (a b c : Bool) (x y z : Refusal) (r : Result A Refusal) (f : A) → cond a (Err x) (cond (not b) (Err y) (cond (not c) (Err z) r)) ≡ Ok f → (a ≡ false) × (b ≡ true) × (c ≡ true) × (r ≡ Ok f)
+passed a b c x y z r f h = grind arith
 
 -- an answer that there was no cause to refuse
 pub passed_unless : {A : Type 0} (o : Option Refusal) (x y : A) → unless x o ≡ Ok y → (x ≡ y) × (o ≡ None)
@@ -64,25 +63,11 @@ passed_unless o x y h = grind arith
 
 -- what a frame on its cycles was before they were looked at
 cycled_from : (format : Format) (r : Result (Frame (List ℕ)) Refusal) (f : Frame (List ℕ)) → on_cycle format r ≡ Ok f → (r ≡ Ok f) × (past_cycle format f ≡ None)
-cycled_from format (Ok g) f h =
-    let same = passed_unless (past_cycle format g) g f h in
-    (ap (λ x. Ok x) same.0, ap (past_cycle format) (sym same.0) ∙ same.1)
-cycled_from format (Err e) f h = cc
+cycled_from format r f h = grind arith
 
 -- what the header of an accepted frame says
-bare_from : (side : Side) (w ack : ℕ) (h : Header) (e : List ℕ) → frame_in side w h e ≡ Ok (Bare ack) → (1 ≡ h.tag) × (sender_byte side ≡ h.sender) × (ack ≡ h.ack) × (0 ≡ h.number) × (0 ≡ h.width) × (length e ≡ 0)
-bare_from side w ack h e r = grind (arith, nat_tests)
-
-laden_from : (side : Side) (w ack number : ℕ) (h : Header) (e element : List ℕ) → frame_in side w h e ≡ Ok (Laden ack number element) → (2 ≡ h.tag) × (sender_byte side ≡ h.sender) × (ack ≡ h.ack) × (number ≡ h.number) × (length element ≡ h.width) × (element ≡ e) × (length element ≡ w)
-laden_from side w ack number h e element r = grind (arith, nat_tests)
-
 said_from : (side : Side) (w : ℕ) (h : Header) (e : List ℕ) (f : Frame (List ℕ)) → frame_in side w h e ≡ Ok f → (header_of side f ≡ h) × (payload f ≡ e) × Wide w f
-said_from side w h e (Bare ack) r =
-    let t = bare_from side w ack h e r in
-    (λ i. record { tag = t.0 i; sender = t.1 i; ack = t.2 i; number = t.3 i; width = t.4 i }, sym (nil_from_length e t.5), tt)
-said_from side w h e (Laden ack number element) r =
-    let t = laden_from side w ack number h e element r in
-    (λ i. record { tag = t.0 i; sender = t.1 i; ack = t.2 i; number = t.3 i; width = t.4 i }, t.5, t.6)
+said_from side w h e f r = grind (arith, nat_tests, nil_from_length)
 
 marks : (bs : List ℕ) → is_marked bs ≡ true → (get_or bs 0 0 ≡ 0x4D) × (get_or bs 1 0 ≡ 0x48) × (get_or bs 2 0 ≡ 0x4C) × (get_or bs 3 0 ≡ 0) × (get_or bs 4 0 ≡ 1)
 marks bs h = grind (arith, nat_tests)
@@ -100,10 +85,8 @@ header_back bs all l m =
 -- what an accepted frame passed
 pub accepted : (format : Format) (w : ℕ) (f : Frame (List ℕ)) (bs : List ℕ) → read_from format w bs ≡ Ok f → (14 ≤ length bs) × (is_marked bs ≡ true) × (is_sealed bs ≡ true) × (on_cycle format (frame_in format.sender w (header_in bs) (carried_in bs)) ≡ Ok f)
 accepted format w f bs h =
-    let one = passed (ltb (length bs) 14 || ltb 32 (length bs)) _ _ f h in
-    let two = passed (not (is_marked bs)) _ _ f one.1 in
-    let three = passed (not (is_sealed bs)) _ _ f two.1 in
-    (ltb-false _ _ (or_parts _ _ one.0).0, not-false _ two.0, not-false _ three.0, three.1)
+    let p = passed (ltb (length bs) 14 || ltb 32 (length bs)) (is_marked bs) (is_sealed bs) _ _ _ _ f h in
+    (ltb-false _ _ (or_parts _ _ p.0).0, p.1, p.2, p.3)
 
 -- whatever is accepted is what is written, and nothing else is
 only_written : (format : Format) (w : ℕ) (f : Frame (List ℕ)) (bs : List ℕ) → AllByRecursion (λ b. b < 256) bs → read_from format w bs ≡ Ok f → (past_cycle format f ≡ None) × Wide w f × (frame_bytes format.sender f ≡ bs)
