@@ -12,12 +12,6 @@ use Rattle.frame.proofs.Seals.{length_sealed}
 use Rattle.frame.proofs.Trips.{passed_unless, reads_back}
 
 module _ {K : Type 0} (kind : Coding K) (format : Format) (exact : (e : K) → length (kind.written e) ≡ kind.width) (returned : (e : K) → fault_of kind e ≡ None → kind.value (kind.written e) ≡ Some e) where
-  wide : (f : Frame K) → Wide kind.width (mapped kind.written f)
-  wide f = grind (arith, exact)
-
-  cycled : (f : Frame K) → past_cycle format f ≡ None → past_cycle format (mapped kind.written f) ≡ None
-  cycled f h = grind arith
-
   -- the element comes back from its bytes
   understands : (f : Frame K) → unfit kind f ≡ None → understood kind (Ok (mapped kind.written f)) ≡ Ok f
   understands f h = grind (arith, returned, in_range_lem)
@@ -33,5 +27,5 @@ module _ {K : Type 0} (kind : Coding K) (format : Format) (exact : (e : K) → l
       let cycle = passed_unless (past_cycle format f) _ _ past in
       let fits = passed_unless (unfit kind f) (bytes_of kind format f) bs fit in
       let size = long f narrow in
-      let whole = reads_back format kind.width (mapped kind.written f) acks numbers narrow (wide f) (cycled f cycle.1) in
+      let whole = reads_back format kind.width (mapped kind.written f) acks numbers narrow (grind (arith, exact)) (grind arith) in
       (omega (arith, ap length fits.0), omega (arith, ap length fits.0), ap (hear_from kind format) (sym fits.0) ∙ ap (understood kind) whole ∙ understands f fits.1)

@@ -43,15 +43,12 @@ said side w f h = grind (arith, nat_tests)
 small : (format : Format) (f : Frame (List ℕ)) → format.cycles.ack ≤ 65536 → format.cycles.number ≤ 65536 → past_cycle format f ≡ None → ((header_of format.sender f).ack < 65536) × ((header_of format.sender f).number < 65536)
 small format f a n h = grind (arith, nat_tests)
 
-narrow : (w : ℕ) (f : Frame (List ℕ)) → w ≤ 18 → Wide w f → length (payload f) ≤ 18
-narrow w f h p = grind arith
-
 -- the bytes of a frame are read as that frame
 pub reads_back : (format : Format) (w : ℕ) (f : Frame (List ℕ)) → format.cycles.ack ≤ 65536 → format.cycles.number ≤ 65536 → w ≤ 18 → Wide w f → past_cycle format f ≡ None → read_from format w (frame_bytes format.sender f) ≡ Ok f
 unfolding frame_bytes
 reads_back format w f a n h wide cycled =
     let s = small format f a n cycled in
-    reads_header format w (header_of format.sender f) (payload f) (narrow w f h wide) s.0 s.1 ∙ ap (on_cycle format) (said format.sender w f wide) ∙ ap (unless f) cycled
+    reads_header format w (header_of format.sender f) (payload f) (grind arith) s.0 s.1 ∙ ap (on_cycle format) (said format.sender w f wide) ∙ ap (unless f) cycled
 
 -- what three tests say that did not refuse
 passed : {A : Type 0} (a b c : Bool) (x y z : Refusal) (r : Result A Refusal) (f : A) → cond a (Err x) (cond (not b) (Err y) (cond (not c) (Err z) r)) ≡ Ok f → (a ≡ false) × (b ≡ true) × (c ≡ true) × (r ≡ Ok f)
