@@ -3,7 +3,7 @@ use Rattle.std.proofs.Common.{◌≡◌, ℕ, ◌≤◌, List, length, Some, Non
 use Rattle.element.proofs.KindLaws.{in_range_lem}
 use Rattle.element.specs.Kinds.{Coding, fault_of}
 use Rattle.refusal.specs.Refusals.{unless}
-use Rattle.frame.specs.Formats.{Wide, frame_bytes, mapped, past_cycle}
+use Rattle.frame.specs.Formats.{frame_bytes, mapped, past_cycle}
 use Rattle.frame.specs.Reads.{hear_from, understood}
 use Rattle.frame.specs.Writes.{bytes_of, unfit}
 use Rattle.frame.specs.declared.Format.{Format}

@@ -4,3 +4,4 @@ pub mod ReadLaws
 pub mod Seals
 pub mod Smallest
 pub mod Trips
+pub mod Turns

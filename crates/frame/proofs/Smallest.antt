@@ -3,6 +3,7 @@ use Rattle.std.proofs.Common.{◌≡◌, ℕ, ◌-◌, Bool, cond, not, ◌||◌
 use Rattle.std.proofs.lemmas.Bool.Decides.{nat_tests}
 use Rattle.refusal.specs.declared.Refusal.{Refusal}
 use Rattle.refusal.specs.declared.Refusal.TheVariants.{FrameLength, MarkOrVersion, WrongCheck}
+use Rattle.frame.proofs.Turns.{in_turn}
 use Rattle.frame.specs.Causes.{SmallestFirst, causes, first_cause, header_causes, refusal_in}
 use Rattle.frame.specs.Formats.{answered}
 use Rattle.frame.specs.Reads.{carried_in, frame_in, header_in, is_marked, is_sealed, on_cycle, read_from}
@@ -19,7 +20,8 @@ tested b x r o h = grind arith
 
 by_bytes : (format : Format) (w : ℕ) (bs : List ℕ) → refusal_in (read_from format w bs) ≡ first_cause (causes format w bs)
 by_bytes format w bs =
-    tested (ltb (length bs) 14 || ltb 32 (length bs)) FrameLength _ _
+    ap refusal_in (in_turn format w bs)
+    ∙ tested (ltb (length bs) 14 || ltb 32 (length bs)) FrameLength _ _
     (tested (not (is_marked bs)) MarkOrVersion _ _
     (tested (not (is_sealed bs)) (WrongCheck (length bs - 2)) _ _ (by_header format w (header_in bs) (carried_in bs))))
 

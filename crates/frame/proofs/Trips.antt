@@ -1,5 +1,5 @@
 -- Reading what was written, and writing what was read.
-use Rattle.std.proofs.Common.{◌≡◌, ℕ, ◌+◌, ◌-◌, ◌<◌, ◌≤◌, Bool, true, false, cond, not, ◌||◌, ltb, List, ◌++◌, length, get_or, take, None, Ok, Err, Option, Result, refl, ap, ◌∙◌, arith}
+use Rattle.std.proofs.Common.{◌≡◌, ℕ, ◌+◌, ◌-◌, ◌<◌, ◌≤◌, Bool, true, false, cond, not, ◌||◌, ltb, List, ◌++◌, length, get_or, take, None, Ok, Err, Option, Result, sym, refl, ap, ◌∙◌, arith}
 use Rattle.std.specs.List.{AllByRecursion}
 use Rattle.std.proofs.lemmas.List.{nil_from_length, take_at}
 use Rattle.std.proofs.lemmas.Bool.{or_parts, ltb-false}
@@ -18,6 +18,7 @@ use Rattle.frame.specs.declared.Format.{Format}
 use Rattle.frame.specs.declared.Frame.{Frame}
 use Rattle.frame.specs.declared.Side.{Side}
 use Rattle.frame.specs.declared.header.Header.{Header}
+use Rattle.frame.proofs.Turns.{in_turn}
 use Rattle.frame.proofs.Seals.{length_sealed, sealed_back, sealed_whole}
 
 -- three tests that did not refuse
@@ -33,7 +34,7 @@ reads_header format w h e narrow a n =
     let fits : (ltb (length bs) 14 || ltb 32 (length bs)) ≡ false = ap (λ k. ltb k 14 || ltb 32 k) long ∙ grind (arith, nat_tests) in
     let header : header_in bs ≡ h = λ i. record { tag = h.tag; sender = h.sender; ack = number_bytes16 h.ack a i; number = number_bytes16 h.number n i; width = h.width } in
     let carried : carried_in bs ≡ e = take_at e (bytes16 (check u)) (length bs - 14) (omega arith) in
-    through _ true _ FrameLength MarkOrVersion _ _ fits refl (sealed_back u) ∙ (λ i. on_cycle format (frame_in format.sender w (header i) (carried i)))
+    in_turn format w bs ∙ through _ true _ FrameLength MarkOrVersion _ _ fits refl (sealed_back u) ∙ (λ i. on_cycle format (frame_in format.sender w (header i) (carried i)))
 
 -- the header of a frame says that frame
 said : (side : Side) (w : ℕ) (f : Frame (List ℕ)) → Wide w f → frame_in side w (header_of side f) (payload f) ≡ Ok f
@@ -82,7 +83,7 @@ header_back bs all l m =
 -- what an accepted frame passed
 pub accepted : (format : Format) (w : ℕ) (f : Frame (List ℕ)) (bs : List ℕ) → read_from format w bs ≡ Ok f → (14 ≤ length bs) × (is_marked bs ≡ true) × (is_sealed bs ≡ true) × (on_cycle format (frame_in format.sender w (header_in bs) (carried_in bs)) ≡ Ok f)
 accepted format w f bs h =
-    let p = passed (ltb (length bs) 14 || ltb 32 (length bs)) (is_marked bs) (is_sealed bs) _ _ _ _ f h in
+    let p = passed (ltb (length bs) 14 || ltb 32 (length bs)) (is_marked bs) (is_sealed bs) _ _ _ _ f (sym (in_turn format w bs) ∙ h) in
     (ltb-false _ _ (or_parts _ _ p.0).0, p.1, p.2, p.3)
 
 -- whatever is accepted is what is written, and nothing else is

@@ -79,13 +79,14 @@ abbrev pub parts_seen : Result Parts Refusal → Result (Header × List ℕ) Ref
 parts_seen (Ok p) = Ok (p.header, p.element.now)
 parts_seen (Err r) = Err r
 
+-- the frame that such parts are, for a kind that is so wide, if the bytes end with their check
+abbrev pub frame_of : Format → ℕ → List ℕ → Result (Header × List ℕ) Refusal → Result (Frame (List ℕ)) Refusal
+frame_of format width bs (Ok p) = cond (not (is_sealed bs)) (Err (WrongCheck (length bs - 2))) (on_cycle format (frame_in format.sender width p.0 p.1))
+frame_of format width bs (Err r) = Err r
+
 -- the frame in some bytes, for a kind that is so wide
 abbrev pub read_from : Format → ℕ → List ℕ → Result (Frame (List ℕ)) Refusal
-read_from format width bs =
-    cond (nat_lt (length bs) 14 || nat_lt 32 (length bs)) (Err FrameLength)
-    (cond (not (is_marked bs)) (Err MarkOrVersion)
-    (cond (not (is_sealed bs)) (Err (WrongCheck (length bs - 2)))
-    (on_cycle format (frame_in format.sender width (header_in bs) (carried_in bs)))))
+read_from format width bs = frame_of format width bs (parts_in bs)
 
 module _ {K : Type 0} (kind : Coding K) where
   -- the frame with its element read, or the refusal at the element's first field at fault
