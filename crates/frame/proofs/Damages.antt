@@ -1,8 +1,8 @@
 -- A frame in which one byte was changed is not read.
-use Rattle.std.proofs.Common.{◌≡◌, ℕ, ◌+◌, ◌-◌, ◌<◌, ◌≤◌, true, false, ◌≢◌, List, length, get_or, take, set, is_ok, Ok, Err, Result, sym, refl, ap, ◌∙◌, inl, inr, arith, length-set, length-take, get_or-set_other, get_or-take, get_or-set_same}
+use Rattle.std.proofs.Common.{◌≡◌, ℕ, ◌+◌, ◌-◌, ◌<◌, ◌≤◌, true, false, List, length, get_or, take, set, is_ok, Ok, Err, Result, refl, ◌∙◌, inl, inr, arith, length-set, length-take, get_or-set_other, get_or-take, get_or-set_same}
 use lib.Seq.{take-set-le, take-set-lt}
 use Rattle.std.specs.List.{AllByRecursion}
-use Rattle.std.proofs.lemmas.Bool.{cases_eq, cases_lt}
+use Rattle.std.proofs.lemmas.Bool.{cases_lt}
 use Rattle.octets.proofs.Changes.{check_changed}
 use Rattle.octets.proofs.Numbers.{byte_at}
 use Rattle.octets.specs.Checks.{check}
@@ -27,35 +27,19 @@ module _ (bs : List ℕ) (n i v : ℕ) (all : AllByRecursion (λ b. b < 256) bs)
   covered : i < n → check (take n bs) ≡ number16 (get_or bs n 0) (get_or bs (n + 1) 0) → check (take n ds) ≡ number16 (get_or ds n 0) (get_or ds (n + 1) 0) → ⊥
   unfolding ds
   covered h a b =
-      let first : n ≢ i = omega arith in
-      let second : n + 1 ≢ i = omega arith in
-      let last : number16 (get_or ds n 0) (get_or ds (n + 1) 0) ≡ number16 (get_or bs n 0) (get_or bs (n + 1) 0) = λ j. number16 (get_or-set_other bs i n v 0 first j) (get_or-set_other bs i (n + 1) v 0 second j) in
       let same : get_or (take n bs) i 0 ≡ get_or bs i 0 = get_or-take n bs i 0 h in
       let short : i < length (take n bs) = simp length-take (omega arith) in
-      let old : get_or (take n bs) i 0 < 256 = omega (arith, same, byte i here) in
-      check_changed (take n bs) i v short small old (λ e. differ (e ∙ same)) (sym (ap check (take-set-lt n bs i v h)) ∙ b ∙ last ∙ sym a)
+      let taken : take n ds ≡ set (take n bs) i v = take-set-lt n bs i v h in
+      check_changed (take n bs) i v short small (omega (arith, same, byte i here)) (λ e. differ (e ∙ same)) (grind (arith, get_or-set_other))
 
   -- a byte of the check itself: the check of the others is as it was
   beside : n ≤ i → check (take n bs) ≡ number16 (get_or bs n 0) (get_or bs (n + 1) 0) → check (take n ds) ≡ number16 (get_or ds n 0) (get_or ds (n + 1) 0) → ⊥
   unfolding ds
   beside h a b =
-      let sum : number16 (get_or bs n 0) (get_or bs (n + 1) 0) ≡ number16 (get_or ds n 0) (get_or ds (n + 1) 0) = sym a ∙ sym (ap check (take-set-le n bs i v h)) ∙ b in
-      let new = get_or-set_same bs i v 0 here in
-      elim (cases_eq i n) [
-        | inl e ↦
-            let second : n + 1 ≢ i = omega arith in
-            let high : get_or ds n 0 ≡ v = ap (λ k. get_or ds k 0) (sym e) ∙ new in
-            let low = get_or-set_other bs i (n + 1) v 0 second in
-            let was : get_or bs i 0 ≡ get_or bs n 0 = ap (λ k. get_or bs k 0) e in
-            differ (omega (arith, sum, high, low, was, byte n (omega arith), byte (n + 1) (omega arith)))
-        | inr ne ↦
-            let e : i ≡ n + 1 = omega arith in
-            let first : n ≢ i = omega arith in
-            let low : get_or ds (n + 1) 0 ≡ v = ap (λ k. get_or ds k 0) (sym e) ∙ new in
-            let high = get_or-set_other bs i n v 0 first in
-            let was : get_or bs i 0 ≡ get_or bs (n + 1) 0 = ap (λ k. get_or bs k 0) e in
-            differ (omega (arith, sum, high, low, was))
-      ]
+      let kept : take n ds ≡ take n bs = take-set-le n bs i v h in
+      let high_byte = byte n (omega arith) in
+      let low_byte = byte (n + 1) (omega arith) in
+      grind (arith, get_or-set_other, get_or-set_same)
 
   unsealed : is_sealed bs ≡ true → is_sealed ds ≡ true → ⊥
   unfolding ds
