@@ -1,6 +1,5 @@
 -- What was written is heard as the frame that it was written of.
 use Rattle.std.proofs.Common.{◌≡◌, ℕ, ◌≤◌, List, length, Some, None, Ok, sym, ap, ◌∙◌, arith}
-use Rattle.element.proofs.KindLaws.{in_range_lem}
 use Rattle.element.specs.Kinds.{Coding, fault_of}
 use Rattle.refusal.specs.Refusals.{unless}
 use Rattle.frame.specs.Formats.{frame_bytes, mapped, past_cycle}
@@ -14,7 +13,7 @@ use Rattle.frame.proofs.Trips.{passed_unless, reads_back}
 module _ {K : Type 0} (kind : Coding K) (format : Format) (exact : (e : K) → length (kind.written e) ≡ kind.width) (returned : (e : K) → fault_of kind e ≡ None → kind.value (kind.written e) ≡ Some e) where
   -- the element comes back from its bytes
   understands : (f : Frame K) → unfit kind f ≡ None → understood kind (Ok (mapped kind.written f)) ≡ Ok f
-  understands f h = grind (arith, returned, in_range_lem)
+  understands f h = grind (arith, returned)
 
   -- how many bytes a frame has
   long : (f : Frame K) → kind.width ≤ 18 → (14 ≤ length (bytes_of kind format f)) × (length (bytes_of kind format f) ≤ 32)

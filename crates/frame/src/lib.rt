@@ -67,11 +67,7 @@ impl<E> Frame<E> {
         let cycles = format.cycles;
         match self {
             Frame::Bare { ack } => below(7, *ack, cycles.ack),
-            Frame::Laden {
-                ack,
-                number,
-                element: _,
-            } => {
+            Frame::Laden { ack, number, .. } => {
                 below(7, *ack, cycles.ack)?;
                 below(9, *number, cycles.number)
             }
