@@ -1,47 +1,30 @@
 // An entry of the table.
-ghost use Rattle.std.specs.Prelude.{◌≡◌, ◌<◌, ◌≤◌, length};
+ghost use Rattle.std.specs.Prelude.{◌≡◌, ℕ, ◌<◌, ◌≤◌, length, slice_index_or};
 ghost use Rattle.octets.specs.Areas.{front};
-ghost use Rattle.air.specs.Waiting.{fresh};
-ghost use Rattle.pool.specs.Entries.{frame_in, raised_entry};
+ghost use Rattle.air.specs.Waiting.{fresh, overtaken};
+ghost use Rattle.air.specs.Places.{nothing};
+ghost use Rattle.pool.specs.Entries.{frame_in, frames_in};
 
+use arrayvec::ArrayVec;
 use octets::LONGEST;
 
-// A frame, in the first `len` of the bytes, and how often it has been overtaken.
-#[derive(Clone, Copy)]
+// A frame, and how often it has been overtaken.
+#[derive(Default, Drop)]
 pub(crate) struct Entry {
-    pub bytes: [u8; LONGEST],
-    pub len: u8,
+    frame: ArrayVec<u8, LONGEST>,
     pub count: u8,
 }
 
 impl Entry {
-    // An entry that holds no frame.
-    pub(crate) const EMPTY: Entry = Entry {
-        bytes: [0; LONGEST],
-        len: 0,
-        count: 0,
-    };
-
     // A frame that has just been put.
     pub(crate) fn holding(bytes: &[u8]) -> Entry
         requires { length bytes.now ≤ 32 }
         ensures { frame_in result ≡ fresh bytes.now }
     {
-        let n = bytes.len();
-        let mut entry = Entry {
-            len: n as u8,
-            ..Entry::EMPTY
-        };
-        entry.bytes[0..n].copy_from_slice(bytes);
-        entry
-    }
-
-    // The frame has been overtaken once more.
-    pub(crate) fn raise_count(&mut self)
-        requires { self.old.count < 255 }
-        ensures { self.new ≡ raised_entry self.old }
-    {
-        self.count += 1;
+        Entry {
+            frame: ArrayVec::try_from(bytes).unwrap(),
+            count: 0,
+        }
     }
 
     // Copies the frame into the front of the area, and answers its length.
@@ -49,8 +32,19 @@ impl Entry {
         ensures size { result ≡ length (frame_in self.now).frame }
         ensures area { area.new ≡ front (frame_in self.now).frame area.old }
     {
-        let n = usize::from(self.len).min(LONGEST);
-        area[0..n].copy_from_slice(&self.bytes[0..n]);
+        let n = self.frame.len();
+        area[..n].copy_from_slice(&self.frame);
         n
+    }
+}
+
+// Each of the first k frames is overtaken once more, in its place.
+pub(crate) fn raise_counts(entries: &mut [Entry], k: usize)
+    requires within { k ≤ length entries.old }
+    requires small { (i : ℕ) → i < k → (slice_index_or (frames_in entries.old) i nothing).count < 255 }
+    ensures { frames_in entries.new ≡ overtaken k (frames_in entries.old) }
+{
+    for entry in &mut entries[..k] {
+        entry.count += 1;
     }
 }
