@@ -16,4 +16,4 @@ pool_state p = record { waiting = frames_in p.waiting.items; capacity = 16; boun
 pub pool_sound : (p : Pool) → Sound (pool_state p)
 pool_sound p =
     let n = length-map p.waiting.items frame_in in
-    (omega (arith, p.within), p.small, All-from_get_or (Fine p.bound) (frames_in p.waiting.items) nothing p.each)
+    (omega arith, p.small, All-from_get_or (Fine p.bound) (frames_in p.waiting.items) nothing p.each)

@@ -2,7 +2,7 @@
 ghost use Rattle.std.specs.Prelude.{◌≡◌, ℕ, ◌<◌, ◌≤◌, length, slice_index_or};
 ghost use Rattle.octets.specs.Areas.{front};
 ghost use Rattle.air.specs.Waiting.{fresh, overtaken};
-ghost use Rattle.air.specs.Places.{nothing};
+ghost use Rattle.pool.specs.declared.entry.Entry.{Entry};
 ghost use Rattle.pool.specs.Entries.{frame_in, frames_in};
 
 use arrayvec::ArrayVec;
@@ -41,7 +41,7 @@ impl Entry {
 // Each of the first k frames is overtaken once more, in its place.
 pub(crate) fn raise_counts(entries: &mut [Entry], k: usize)
     requires within { k ≤ length entries.old }
-    requires small { (i : ℕ) → i < k → (slice_index_or (frames_in entries.old) i nothing).count < 255 }
+    requires small { (i : ℕ) (d : Entry) → i < k → (slice_index_or entries.old i d).count < 255 }
     ensures { frames_in entries.new ≡ overtaken k (frames_in entries.old) }
 {
     for entry in &mut entries[..k] {

@@ -1,9 +1,17 @@
-use Rattle.std.proofs.Common.{arith, ap, ◌∙◌, subst, sym}
+use Rattle.std.proofs.Common.{◌≡◌, ℕ, List, arith, ap, ◌∙◌, subst, sym}
+use Rattle.std.specs.List.{remove}
+use Rattle.std.proofs.lemmas.List.{drop-map, map-append, take-map}
+use Rattle.air.specs.Waiting.{without}
 use Rattle.air.specs.Places.{EachFine}
 use Rattle.air.proofs.FineLaws.{each_without}
+use Rattle.air.proofs.Places.{without_is}
+use Rattle.pool.specs.declared.entry.Entry.{Entry}
 use Rattle.pool.specs.Entries.{frames_in}
-use Rattle.pool.proofs.TableLaws.{frames_without}
 use Rattle.pool.proofs.calls.PoolAir.lose.Goals as goal
+
+-- to remove an entry is to lose its frame
+frames_without : (k : ℕ) (entries : List Entry) → frames_in (remove entries k) ≡ without k (frames_in entries)
+frames_without k entries = rw without_is (simp (map-append, take-map, drop-map))
 
 pub invariant_of-self-clause-each : goal.invariant_of-self-clause-each
 invariant_of-self-clause-each c =
@@ -12,4 +20,4 @@ invariant_of-self-clause-each c =
     subst (EachFine p.bound) (sym is) (each_without p.bound c.args.k (frames_in p.waiting.items) p.each)
 
 pub returns : goal.returns
-returns c = let e = frames_without c.args.k c.args.self.now.waiting.items in grind arith
+returns c = grind (arith, frames_without)
