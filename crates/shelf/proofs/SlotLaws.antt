@@ -85,7 +85,7 @@ get_or_part a n xs ys p below within = search (rules, places)
 -- the bytes of the slots from k on are turned round by one slot
 module _ (k used : ℕ) (m part : List ℕ) (at : k < used) (within : 36 * used ≤ length m)
     (is : part ≡ drop 36 (between (36 * k) (36 * used) m) ++ take 36 (between (36 * k) (36 * used) m)) where
-  abbrev turned : List ℕ
+  abbrev pub turned : List ℕ
   turned = put_mid (36 * k) (36 * used - 36 * k) m part
 
   part_length : length part ≡ 36 * used - 36 * k

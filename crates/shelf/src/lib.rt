@@ -3,7 +3,7 @@
 
 ghost use Rattle.std.specs.Prelude.{◌≡◌, ◌≤◌, length};
 ghost use Rattle.air.specs.Places.{EachFine};
-ghost use Rattle.shelf.specs.Slots.{frames_in, slot_count};
+ghost use Rattle.shelf.specs.Slots.{frames_in};
 
 mod calls;
 mod gauge;
@@ -17,15 +17,13 @@ pub const SLOT: usize = 36;
 // No shelf has room for more frames than this, however long its memory is.
 pub const MOST: usize = 1_000;
 
-// Slots in lent memory, of which the first `used` hold the waiting frames, oldest first.
+// Slots in lent memory, and a bound.
 #[derive(Drop)]
 pub struct Shelf<'a> {
     slots: Slots<'a>,
-    used: usize,
     bound: u8,
-    ghost within: { used ≤ slot_count slots.memory.now },
     // this follows, and is here for the prover
-    ghost listed: { length (frames_in used slots.memory.now) ≡ used },
+    ghost listed: { length (frames_in slots.used slots.memory.now) ≡ slots.used },
     ghost small: { bound ≤ 255 },
-    ghost each: { EachFine bound (frames_in used slots.memory.now) },
+    ghost each: { EachFine bound (frames_in slots.used slots.memory.now) },
 }

@@ -1,0 +1,11 @@
+use Rattle.air.proofs.FineLaws.{each_without}
+use Rattle.shelf.specs.Shelves.{shelf_state}
+use Rattle.shelf.proofs.ShelfLaws.{kept}
+use Rattle.air.specs.Waiting.{without}
+use Rattle.shelf.proofs.calls.ShelfAir.lose.Goals as goal
+
+pub invariant_of-self : goal.invariant_of-self
+invariant_of-self c =
+    let s = c.args.self.now in
+    let ws = (shelf_state s).waiting in
+    kept s c.remove.new.self (without c.args.k ws) c.remove.ensures.frames (each_without s.bound c.args.k ws s.each)
