@@ -20,15 +20,16 @@ impl<A: Gauge> Gauge for Tight<A> {
     }
 
     fn bound(&self) -> u8 {
-        self.smaller_bound()
+        self.given.min(self.below.bound())
     }
 
     fn waiting(&self) -> usize {
-        self.waiting_below()
+        self.below.waiting()
     }
 
     fn count(&self, k: usize) -> Result<u8, Refusal> {
-        self.capped_count(k)
+        let count = self.below.count(k)?;
+        Ok(count.min(self.bound()))
     }
 }
 
@@ -38,14 +39,14 @@ impl<A: Air> Air for Tight<A> {
         ensures step { (result, tight_state A.Gauge.state self.new) ≡ put_step bytes.now (tight_state A.Gauge.state self.old) }
         ensures below { WentThrough A.Gauge.state (puts bytes.now) self.old self.new }
     {
-        self.put_below(bytes)
+        self.below.put(bytes)
     }
 
     fn lose(&mut self, k: usize) -> Result<(), Refusal>
         ensures step { (result, tight_state A.Gauge.state self.new) ≡ lose_step k (tight_state A.Gauge.state self.old) }
         ensures below { WentThrough A.Gauge.state (loses k) self.old self.new }
     {
-        self.lose_below(k)
+        self.below.lose(k)
     }
 
     fn take(&mut self, k: usize, area: &mut [u8; LONGEST]) -> Result<usize, Refusal>
@@ -53,7 +54,7 @@ impl<A: Air> Air for Tight<A> {
         ensures below { WentThrough A.Gauge.state (takes k area.old) self.old self.new }
     {
         check_answer(self, k)?;
-        self.take_below(k, area)
+        self.below.take(k, area)
     }
 
     fn repeat(&mut self, k: usize, area: &mut [u8; LONGEST]) -> Result<usize, Refusal>
@@ -61,6 +62,6 @@ impl<A: Air> Air for Tight<A> {
         ensures below { WentThrough A.Gauge.state (repeats k area.old) self.old self.new }
     {
         check_answer(self, k)?;
-        self.repeat_below(k, area)
+        self.below.repeat(k, area)
     }
 }

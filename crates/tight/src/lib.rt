@@ -9,7 +9,6 @@ ghost use Rattle.tight.specs.Tights.{tight_state};
 use air::{Air, Gauge, clear};
 
 mod calls;
-mod through;
 
 // The air below keeps the frames and their counts; the bound is the smaller of its own and the one given.
 #[derive(Drop)]
@@ -29,18 +28,12 @@ impl<A: Air> Tight<A> {
         Tight { below, given }
     }
 
-    // Nothing is done here: that no count is capped, whatever calls there were, is what its contract says.
-    fn show_same_list(&self)
-        ensures { SameList self.now.given (A.Gauge.state self.now.below) }
-    {}
-
     // The air below, with the frames that wait in it, held to its own bound again. Its list is that of the tight air, whatever
     // calls on the tight air led to it.
     pub fn release(self) -> A
         ensures below { result ≡ self.below }
         ensures same { SameList self.given (A.Gauge.state result) }
     {
-        self.show_same_list();
         self.below
     }
 }
