@@ -1,8 +1,8 @@
 -- The laws of histories: they hold at the start, no call breaks them, and so they hold after every history.
-use Rattle.std.proofs.Common.{◌≡◌, ℕ, ◌≤◌, List, [], ◌∷◌, length, Some, None, Option, refl, ap, ◌∙◌, subst, arith}
+use Rattle.std.proofs.Common.{◌≡◌, ℕ, ◌≤◌, List, [], ◌∷◌, length, drop, Some, None, Option, refl, ap, ◌∙◌, subst, arith}
 use Rattle.std.specs.Result.{result_unwrap_or}
 use Rattle.std.specs.List.{AllByRecursion, slice_get}
-use Rattle.octets.proofs.Fronts.{take-front}
+use Rattle.std.proofs.lemmas.List.{take_at}
 use Rattle.refusal.specs.declared.Refusal.{Refusal}
 use Rattle.air.specs.Waiting.{Waiting, AirState, joined, lost, repeated, taken}
 use Rattle.air.specs.Steps.{Bytes, place_refusal, answer_refusal, put_refusal, step_unless, answer_unless, count_of, frame_at, oldest_count}
@@ -29,14 +29,14 @@ module _ (k : ℕ) (area : Bytes) (p : Past) (i : Holds p) where
   take_keeps None e =
       let may = answer_free k p.air e in
       let frame = frame_at k p.air in
-      rw (take-front (length frame) frame area refl) (kept_taken k (serial_at k p) frame (kept_serial k i may.0) (kept_frame k i may.0) may.1 i)
+      rw (take_at frame (drop (length frame) area) (length frame) refl) (kept_taken k (serial_at k p) frame (kept_serial k i may.0) (kept_frame k i may.0) may.1 i)
   take_keeps (Some refusal) e = i
 
   repeat_keeps : (o : Option Refusal) → answer_refusal k p.air ≡ o → Holds (after_repeat k (answer_unless o (frame_at k p.air) (repeated k p.air) p.air area) p)
   repeat_keeps None e =
       let may = answer_free k p.air e in
       let frame = frame_at k p.air in
-      rw (take-front (length frame) frame area refl) (kept_repeated k (serial_at k p) frame (kept_serial k i may.0) (kept_frame k i may.0) may.1 i)
+      rw (take_at frame (drop (length frame) area) (length frame) refl) (kept_repeated k (serial_at k p) frame (kept_serial k i may.0) (kept_frame k i may.0) may.1 i)
   repeat_keeps (Some refusal) e = i
 
 call_keeps : (c : Call) (p : Past) → Holds p → Holds (after c p)

@@ -13,7 +13,7 @@ use octets::check_of;
 use refusal::Refusal;
 
 // The bytes of a header, those of an element, and the check of both.
-fn sealed(header: Header, element: &[u8]) -> ArrayVec<u8, LONGEST>
+fn with_check(header: Header, element: &[u8]) -> ArrayVec<u8, LONGEST>
     requires { length element.now ≤ 18 }
     ensures { result.items ≡ sealed_bytes (header_bytes header ++ element.now) }
 {
@@ -47,7 +47,7 @@ impl<K: Kind> Frame<K> {
             number,
             width: width as u8,
         };
-        Ok(sealed(header, &area[..width]))
+        Ok(with_check(header, &area[..width]))
     }
 }
 
