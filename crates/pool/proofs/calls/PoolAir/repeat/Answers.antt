@@ -16,7 +16,7 @@ pub raise_counts-requires-clause-small : goal.raise_counts-requires-clause-small
 raise_counts-requires-clause-small c = λ i d before.
     let p = c.args.self.now in
     let free = answer_free c.args.k (pool_state p) (grind arith) in
-    let less = below_bound p.bound c.args.k i (frames_in p.waiting.items) p.each free.1 before (omega arith) in
+    let less = below_bound p.bound c.args.k i (frames_in p.waiting.items) p.each free.1 (omega arith) (omega arith) in
     grind (arith, get_or-map, length-map)
 
 pub invariant_of-self-clause-each : goal.invariant_of-self-clause-each
