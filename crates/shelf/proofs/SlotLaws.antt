@@ -1,167 +1,198 @@
--- What a change of the memory does to the frames in its slots.
-use Rattle.std.proofs.Common.{◌≡◌, ℕ, zero, suc, ◌+◌, ◌-◌, ◌*◌, ◌<◌, ◌≤◌, min, ◌≢◌, List, [], ◌∷◌, ◌++◌, map, length, get_or, take, drop, set, sym, refl, ap, ◌∙◌, ⊎_elim, add-zero, add_assoc, arith, rules}
+-- What a change of the slots does to the frames in them.
+use Rattle.std.proofs.Common.{◌≡◌, ℕ, zero, suc, ◌+◌, ◌-◌, ◌*◌, ◌/◌, ◌<◌, ◌≤◌, min, ◌≢◌, List, [], ◌∷◌, ◌++◌, map, length, get_or, take, drop, set, sym, refl, ap, ap₂, ◌∙◌, arith, rules}
 use borrow.Rule.Slice.PartMut.{put_mid}
-use Rattle.std.specs.List.{range_with_len, between, remove}
-use Rattle.std.proofs.lemmas.List.FromFn.{fill_by_all, get_or-map-range_with_len, length-map-range_with_len, map-range_with_len_more}
-use Rattle.std.proofs.lemmas.List.Edits.{get_or-between, get_or-remove_above, get_or-remove_below, length-paste, length-remove, take-paste}
-use Rattle.std.proofs.lemmas.List.{places, drop_at, drop-set-lt, drop-take, ext_get_or, get_or_append_left, get_or-drop, get_or-set_other, get_or-set_same, get_or-take, length-append, length-drop, length-set, length-take, length-take-le, take_all}
-use Rattle.std.proofs.lemmas.Bool.{cases_eq, cases_lt}
+use Rattle.std.specs.Simd.{first_chunks}
+use Rattle.std.specs.List.{All, between, concat}
+use Rattle.std.proofs.lemmas.List.FromFn.{fill_by_all}
+use Rattle.std.proofs.lemmas.Slice.{between_is, take-put_mid}
+use Rattle.std.proofs.lemmas.List.Edits.{map_over_more, take-paste}
+use Rattle.std.proofs.lemmas.List.{places, drop-append-le, take-append-le, drop-drop, map_push, append_assoc, get_or-take, take-take, take_at, take_more_set, append-nil, drop_all, drop_at, get_or-map, get_or_default, length-map, drop-set-lt, drop-take, get_or_append_left, get_or-append_right, get_or-set_other, get_or-set_same, length-append, length-drop, length-set, length-take, length-take-le, take_all}
+use Rattle.std.proofs.lemmas.List.Elements.{All-append, All-cons, All-drop, All-get_or, All-head, All-map, All-nil, All-same, All-tail, All-take, All-weaker}
 use Rattle.air.specs.Waiting.{Waiting, fresh, raised, overtaken, without}
 use Rattle.air.specs.Steps.{Bytes}
 use Rattle.air.specs.Places.{nothing}
 use Rattle.air.proofs.Places.{without_is}
-use Rattle.shelf.specs.Slots.{frame_in, frames_in, with_frame}
+use Rattle.shelf.specs.Slots.{IsSlot, frame_in, frames_in, slot_count, slots_counted, with_frame}
 
--- slots of the same bytes hold the same frame; a slot past the end of its memory, or cut by it, has fewer than 36
-frame_same : (i j : ℕ) (m n : List ℕ) → min (length m - 36 * i) 36 ≡ min (length n - 36 * j) 36 → ((p : ℕ) → p < 36 → get_or m (36 * i + p) 0 ≡ get_or n (36 * j + p) 0) → frame_in m i ≡ frame_in n j
-frame_same i j m n long same =
-    let size : get_or m (36 * i) 0 ≡ get_or n (36 * j) 0 = simp add-zero at (same 0 (omega arith)) in
-    let k = min (get_or n (36 * j) 0) 32 in
-    let bytes : take k (drop (36 * i + 4) m) ≡ take k (drop (36 * j + 4) n) =
-    ext_get_or 0 (take k (drop (36 * i + 4) m)) (take k (drop (36 * j + 4) n)) (simp (length-take, length-drop) (omega arith)) (λ q below.
-    let short : q < k = omega (arith, length-take k (drop (36 * i + 4) m)) in
-    simp (get_or-take, get_or-drop, add_assoc) (same (4 + q) (omega arith))) in
-    λ t. record { frame = (ap (λ s. take (min s 32) (drop (36 * i + 4) m)) size ∙ bytes) t; count = same 1 (omega arith) t }
+-- the frame in the first of some slots, and in a later one
+module _ (s m : List ℕ) (long : length s ≡ 36) where
+  frame_first : frame_in (s ++ m) 0 ≡ frame_in s 0
+  frame_first =
+      let size = get_or_append_left s m 0 0 (omega arith) in
+      let bytes = drop-append-le 4 s m (omega arith) in
+      let short = take-append-le (min (get_or s 0 0) 32) (drop 4 s) m (simp length-drop (omega arith)) in
+      λ t. record { frame = ((λ t. take (min (size t) 32) (bytes t)) ∙ short) t; count = get_or_append_left s m 0 1 (omega arith) t }
 
-frames_same : (used : ℕ) (m n : List ℕ) → ((i : ℕ) → i < used → frame_in m i ≡ frame_in n i) → frames_in used m ≡ frames_in used n
-frames_same used m n same =
-    fill_by_all (frame_in n) (frames_in used m) used nothing (length-map-range_with_len (frame_in m) 0 used)
-    (λ i below. get_or-map-range_with_len (frame_in m) 0 used i i nothing below (omega arith) ∙ same i below)
+  frame_later : (i : ℕ) → frame_in (s ++ m) (suc i) ≡ frame_in m i
+  frame_later i =
+      let size : 36 * suc i - 36 ≡ 36 * i = omega arith in
+      let count : 36 * suc i + 1 - 36 ≡ 36 * i + 1 = omega arith in
+      let start : 36 * suc i + 4 ≡ 36 + (36 * i + 4) = omega arith in
+      let size = get_or-append_right s m 36 (36 * suc i) 0 long (omega arith) ∙ ap (λ p. get_or m p 0) size in
+      let bytes = ap (λ p. drop p (s ++ m)) start ∙ sym (drop-drop (36 * i + 4) 36 (s ++ m)) ∙ ap (drop (36 * i + 4)) (drop_at s m 36 long) in
+      λ t. record { frame = take (min (size t) 32) (bytes t); count = (get_or-append_right s m 36 (36 * suc i + 1) 0 long (omega arith) ∙ ap (λ p. get_or m p 0) count) t }
 
--- a fresh frame is written into slot i
-module _ (m : List ℕ) (i : ℕ) (bs : Bytes) (within : 36 * i + 36 ≤ length m) (few : length bs ≤ 32) where
+-- slots end to end hold what each of them does
+pub frame_end_to_end : (slots : List (List ℕ)) (i : ℕ) → All IsSlot slots → i < length slots → frame_in (concat slots) i ≡ frame_in (get_or slots i []) 0
+frame_end_to_end [] i whole within = absurd (omega arith)
+frame_end_to_end (s ∷ slots) zero whole within = frame_first s (concat slots) (All-head IsSlot s slots whole)
+frame_end_to_end (s ∷ slots) (suc i) whole within =
+    frame_later s (concat slots) (All-head IsSlot s slots whole) i ∙ frame_end_to_end slots i (All-tail IsSlot s slots whole) (omega arith)
+
+-- the frame in a slot
+abbrev pub slot_frame : List ℕ → Waiting Bytes
+slot_frame s = frame_in s 0
+
+-- the waiting frames are those in the first slots
+pub frames_end_to_end : (used : ℕ) (slots : List (List ℕ)) → All IsSlot slots → used ≤ length slots → frames_in used (concat slots) ≡ map slot_frame (take used slots)
+frames_end_to_end used slots whole within =
+    sym (fill_by_all (frame_in (concat slots)) (map slot_frame (take used slots)) used nothing (simp (length-map, length-take) (omega arith)) (λ i below.
+    get_or-map slot_frame (take used slots) i [] nothing (simp length-take (omega arith)) ∙ ap slot_frame (get_or-take used slots i [] below) ∙ sym (frame_end_to_end slots i whole (omega arith))))
+
+-- a fresh frame is written into a slot
+module _ (s : List ℕ) (bs : Bytes) (long : length s ≡ 36) (few : length bs ≤ 32) where
   abbrev marked : List ℕ
-  marked = set (set m (36 * i) (length bs)) (36 * i + 1) 0
+  marked = set (set s 0 (length bs)) 1 0
 
-  marked_length : length marked ≡ length m
-  marked_length = simp length-set
-
-  pub written_length : length (with_frame m i bs) ≡ length m
-  written_length = let n = marked_length in length-paste marked (36 * i + 4) bs (length bs) (omega arith) (omega arith) ∙ n
+  marked_length : length marked ≡ 36
+  marked_length = simp length-set long
 
   -- what stands before the bytes of the frame
-  before_frame : (p : ℕ) → p < 36 * i + 4 → get_or (with_frame m i bs) p 0 ≡ get_or marked p 0
+  before_frame : (p : ℕ) → p < 4 → get_or (with_frame s 0 bs) p 0 ≡ get_or marked p 0
   before_frame p below = let n = marked_length in search (rules, places)
 
-  -- the slot then holds the frame, and those before it are as they were
-  written_size : get_or (with_frame m i bs) (36 * i) 0 ≡ length bs
-  written_size =
-      let apart : 36 * i ≢ 36 * i + 1 = omega arith in
-      before_frame (36 * i) (omega arith) ∙ get_or-set_other (set m (36 * i) (length bs)) (36 * i + 1) (36 * i) 0 0 apart ∙ get_or-set_same m (36 * i) (length bs) 0 (omega arith)
+  written_size : get_or (with_frame s 0 bs) 0 0 ≡ length bs
+  written_size = before_frame 0 (omega arith) ∙ search (rules, places)
 
-  written_count : get_or (with_frame m i bs) (36 * i + 1) 0 ≡ 0
-  written_count = before_frame (36 * i + 1) (omega arith) ∙ get_or-set_same (set m (36 * i) (length bs)) (36 * i + 1) 0 0 (simp length-set (omega arith))
+  written_count : get_or (with_frame s 0 bs) 1 0 ≡ 0
+  written_count = before_frame 1 (omega arith) ∙ search (rules, places)
 
-  written_frame : take (length bs) (drop (36 * i + 4) (with_frame m i bs)) ≡ bs
+  written_frame : take (length bs) (drop 4 (with_frame s 0 bs)) ≡ bs
   written_frame =
       let n = marked_length in
-      sym (drop-take (36 * i + 4) (length bs) (with_frame m i bs))
-      ∙ ap (drop (36 * i + 4)) (take-paste marked (36 * i + 4) bs (length bs) (omega arith) (omega arith))
-      ∙ drop_at (take (36 * i + 4) marked) (take (length bs) bs) (36 * i + 4) (length-take-le (36 * i + 4) marked (omega arith))
+      sym (drop-take 4 (length bs) (with_frame s 0 bs))
+      ∙ ap (drop 4) (take-paste marked 4 bs (length bs) (omega arith) (omega arith))
+      ∙ drop_at (take 4 marked) (take (length bs) bs) 4 (length-take-le 4 marked (omega arith))
       ∙ take_all (length bs) bs (omega arith)
 
-  written_here : frame_in (with_frame m i bs) i ≡ fresh bs
-  written_here =
+  pub written : frame_in (with_frame s 0 bs) 0 ≡ fresh bs
+  written =
       let short : min (length bs) 32 ≡ length bs = omega arith in
       let size = ap (λ s. min s 32) written_size ∙ short in
-      λ t. record { frame = (ap (λ s. take s (drop (36 * i + 4) (with_frame m i bs))) size ∙ written_frame) t; count = written_count t }
+      λ t. record { frame = (ap (λ n. take n (drop 4 (with_frame s 0 bs))) size ∙ written_frame) t; count = written_count t }
 
-  written_older : (j : ℕ) → j < i → frame_in (with_frame m i bs) j ≡ frame_in m j
-  written_older j below = let n = written_length in frame_same j j (with_frame m i bs) m (omega arith) (λ p slot.
-      let size : 36 * j + p ≢ 36 * i = omega arith in
-      let count : 36 * j + p ≢ 36 * i + 1 = omega arith in
-      before_frame (36 * j + p) (omega arith) ∙ get_or-set_other (set m (36 * i) (length bs)) (36 * i + 1) (36 * j + p) 0 0 count ∙ get_or-set_other m (36 * i) (36 * j + p) (length bs) 0 size)
+-- the frame in a slot is overtaken once more
+abbrev pub raised_slot : List ℕ → List ℕ
+raised_slot s = set s 1 (get_or s 1 0 + 1)
 
-  pub frames_written : frames_in (i + 1) (with_frame m i bs) ≡ frames_in i m ++ (fresh bs ∷ [])
-  frames_written =
-      map-range_with_len_more (frame_in (with_frame m i bs)) 0 i i (omega arith)
-      ∙ ap (λ w. frames_in i (with_frame m i bs) ++ (w ∷ [])) written_here
-      ∙ ap (λ ws. ws ++ (fresh bs ∷ [])) (frames_same i (with_frame m i bs) m written_older)
+raised_in : (s : List ℕ) → length s ≡ 36 → frame_in (raised_slot s) 0 ≡ raised (frame_in s 0)
+raised_in s long =
+    let v = get_or s 1 0 + 1 in
+    let apart : ◌≢◌ {A = ℕ} 0 1 = omega arith in
+    let size : get_or (raised_slot s) 0 0 ≡ get_or s 0 0 = get_or-set_other s 1 0 v 0 apart in
+    let bytes = drop-set-lt 4 s 1 v (omega arith) in
+    λ t. record { frame = take (min (size t) 32) (bytes t); count = get_or-set_same s 1 v 0 (omega arith) t }
 
--- a byte of a part that was written
-get_or_part : (a n : ℕ) (xs ys : List ℕ) (p : ℕ) → p < length ys → a ≤ length xs → get_or (put_mid a n xs ys) (a + p) 0 ≡ get_or ys p 0
-get_or_part a n xs ys p below within = search (rules, places)
+-- the frames in the first k slots are
+frames_raised : (k used : ℕ) (slots : List (List ℕ)) → k ≤ used → used ≤ length slots → All IsSlot slots → map slot_frame (take used (map raised_slot (take k slots) ++ drop k slots)) ≡ overtaken k (map slot_frame (take used slots))
+frames_raised zero used slots few within whole = refl
+frames_raised (suc k) zero slots few within whole = absurd (omega arith)
+frames_raised (suc k) (suc used) [] few within whole = absurd (omega arith)
+frames_raised (suc k) (suc used) (s ∷ slots) few within whole =
+    λ t. raised_in s (All-head IsSlot s slots whole) t ∷ frames_raised k used slots (omega arith) (omega arith) (All-tail IsSlot s slots whole) t
 
--- the bytes of the slots from k on are turned round by one slot
-module _ (k used : ℕ) (m part : List ℕ) (at : k < used) (within : 36 * used ≤ length m)
-    (is : part ≡ drop 36 (between (36 * k) (36 * used) m) ++ take 36 (between (36 * k) (36 * used) m)) where
-  abbrev pub turned : List ℕ
-  turned = put_mid (36 * k) (36 * used - 36 * k) m part
+map-without : {A B : Type 0} (f : A → B) (k : ℕ) (xs : List A) → map f (without k xs) ≡ without k (map f xs)
+map-without f k [] = refl
+map-without f zero (x ∷ xs) = refl
+map-without f (suc k) (x ∷ xs) = ap (λ r. f x ∷ r) (map-without f k xs)
 
-  part_length : length part ≡ 36 * used - 36 * k
+-- the slots from k on are turned round by one
+module _ (k used : ℕ) (slots part : List (List ℕ)) (at : k < used) (within : used ≤ length slots)
+    (is : part ≡ drop 1 (between k used slots) ++ take 1 (between k used slots)) where
+  abbrev pub turned : List (List ℕ)
+  turned = put_mid k (used - k) slots part
+
+  part_length : length part ≡ used - k
   part_length = ap length is ∙ simp (length-append, length-drop, length-take) (omega arith)
 
-  pub turned_length : length turned ≡ length m
-  turned_length = let n = part_length in search (rules, places)
+  pub turned_whole : All IsSlot slots → All IsSlot turned
+  turned_whole whole =
+      let mid = All-take IsSlot (used - k) (drop k slots) (All-drop IsSlot k slots whole) in
+      All-append IsSlot (take k slots) (part ++ drop (used - k) (drop k slots)) (All-take IsSlot k slots whole)
+      (All-append IsSlot part (drop (used - k) (drop k slots))
+      (All-same IsSlot part (drop 1 (between k used slots) ++ take 1 (between k used slots)) is
+      (All-append IsSlot (drop 1 (between k used slots)) (take 1 (between k used slots)) (All-drop IsSlot 1 (between k used slots) mid) (All-take IsSlot 1 (between k used slots) mid)))
+      (All-drop IsSlot (used - k) (drop k slots) (All-drop IsSlot k slots whole)))
 
-  pub turned_older : (i : ℕ) → i < k → frame_in turned i ≡ frame_in m i
-  turned_older i below = let n = turned_length in frame_same i i turned m (omega arith) (λ p slot.
-      let before : 36 * i + p < 36 * k = omega arith in
-      search (rules, places))
+  take_closed : take (used - 1) turned ≡ without k (take used slots)
+  take_closed =
+      let xs = take k slots in
+      let mid = between k used slots in
+      let n = part_length in
+      let next : k + 1 ≡ suc k = omega arith in
+      sym (take-take (used - 1) used turned (omega arith))
+      ∙ ap (take (used - 1)) (take-put_mid k (used - k) slots part used (omega arith) (omega arith))
+      ∙ ap (λ ys. take (used - 1) (xs ++ ys)) is
+      ∙ ap (take (used - 1)) (sym (append_assoc xs (drop 1 mid) (take 1 mid)))
+      ∙ take_at (xs ++ drop 1 mid) (take 1 mid) (used - 1) (simp (length-append, length-drop, length-take) (omega arith))
+      ∙ ap₂ ◌++◌ (sym (take-take k used slots (omega arith))) (ap (drop 1) (between_is slots k used) ∙ drop-drop 1 k (take used slots) ∙ ap (λ j. drop j (take used slots)) next)
+      ∙ sym (without_is k (take used slots))
 
-  part_at : (p : ℕ) → p + 36 < 36 * used - 36 * k → get_or part p 0 ≡ get_or m (36 * k + (36 + p)) 0
-  part_at p below =
-      let b = between (36 * k) (36 * used) m in
-      ap (λ xs. get_or xs p 0) is
-      ∙ get_or_append_left (drop 36 b) (take 36 b) 0 p (simp (length-drop, length-take) (omega arith))
-      ∙ get_or-drop 36 b p 0
-      ∙ get_or-between m (36 * k) (36 * used) (36 + p) 0 (omega arith)
+  pub frames_closed : All IsSlot slots → frames_in (used - 1) (concat turned) ≡ without k (frames_in used (concat slots))
+  frames_closed whole =
+      let n = part_length in
+      frames_end_to_end (used - 1) turned (turned_whole whole) (search (rules, places))
+      ∙ ap (map slot_frame) take_closed ∙ map-without slot_frame k (take used slots)
+      ∙ ap (without k) (sym (frames_end_to_end used slots whole within))
 
-  pub turned_younger : (i : ℕ) → k ≤ i → i + 1 < used → frame_in turned i ≡ frame_in m (i + 1)
-  turned_younger i from to = let n = turned_length in let l = part_length in frame_same i (i + 1) turned m (omega arith) (λ p slot.
-      let here : 36 * i + p ≡ 36 * k + (36 * (i - k) + p) = omega arith in
-      let there : 36 * k + (36 + (36 * (i - k) + p)) ≡ 36 * (i + 1) + p = omega arith in
-      ap (λ q. get_or turned q 0) here ∙ get_or_part (36 * k) (36 * used - 36 * k) m part (36 * (i - k) + p) (omega arith) (omega arith) ∙ part_at (36 * (i - k) + p) (omega arith) ∙ ap (λ q. get_or m q 0) there)
+-- the slots before slot k are raised one by one; so far the first i are
+module _ (old items : List (List ℕ)) (k i : ℕ) (within : k ≤ length old) (is : items ≡ map raised_slot (take i (take k old)) ++ drop i (take k old)) where
+  -- the slot that comes next is as it was
+  pub next_slot : i < k → get_or items i [] ≡ get_or old i []
+  next_slot below =
+      let n : length (map raised_slot (take i (take k old))) ≡ i = simp (length-map, length-take) (omega arith) in
+      ap (λ ys. get_or ys i []) is ∙ search (rules, places)
 
--- the slots behind slot k have closed up
-pub frames_closed : (k used : ℕ) (m w : List ℕ) → k < used → ((i : ℕ) → i < k → frame_in w i ≡ frame_in m i) → ((i : ℕ) → k ≤ i → i + 1 < used → frame_in w i ≡ frame_in m (i + 1)) → frames_in (used - 1) w ≡ without k (frames_in used m)
-frames_closed k used m w at older younger =
-    let ws = frames_in used m in
-    let n = length-map-range_with_len (frame_in m) 0 used in
-    let l = length-remove ws k (omega arith) in
-    sym (without_is k ws ∙ fill_by_all (frame_in w) (remove ws k) (used - 1) nothing (omega arith) (λ i below.
-    ⊎_elim
-    (λ (before : i < k). get_or-remove_below ws k nothing i before (omega arith) ∙ get_or-map-range_with_len (frame_in m) 0 used i i nothing (omega arith) (omega arith) ∙ sym (older i before))
-    (λ (behind : k ≤ i). get_or-remove_above ws k nothing i behind (omega arith) ∙ get_or-map-range_with_len (frame_in m) 0 used (i + 1) (i + 1) nothing (omega arith) (omega arith) ∙ sym (younger i behind (omega arith)))
-    (cases_lt i k)))
+  pub slot_raised : i < k → set items i (raised_slot (get_or items i [])) ≡ map raised_slot (take (i + 1) (take k old)) ++ drop (i + 1) (take k old)
+  slot_raised below =
+      map_over_more raised_slot (take k old) items i (get_or items i []) (simp length-take (omega arith)) is
+      (get_or_default items i [] (get_or items i []) (simp (is, length-append, length-map, length-take, length-drop) (omega arith)))
 
--- one count is written
-count_here : (m : List ℕ) (i v : ℕ) → 36 * i + 36 ≤ length m → frame_in (set m (36 * i + 1) v) i ≡ record { frame = (frame_in m i).frame; count = v }
-count_here m i v within =
-    let apart : 36 * i ≢ 36 * i + 1 = omega arith in
-    let size = get_or-set_other m (36 * i + 1) (36 * i) v 0 apart in
-    let bytes = drop-set-lt (36 * i + 4) m (36 * i + 1) v (omega arith) in
-    λ t. record { frame = take (min (size t) 32) (bytes t); count = get_or-set_same m (36 * i + 1) v 0 (omega arith) t }
+  module _ (done : k ≤ i) (whole : All IsSlot old) where
+    raised_all : items ≡ map raised_slot (take k old)
+    raised_all =
+        is ∙ ap₂ (λ xs ys. map raised_slot xs ++ ys) (take_all i (take k old) (simp length-take (omega arith))) (drop_all i (take k old) (simp length-take (omega arith))) ∙ append-nil (map raised_slot (take k old))
 
-count_there : (m : List ℕ) (i j v : ℕ) → (j ≡ i → ⊥) → frame_in (set m (36 * i + 1) v) j ≡ frame_in m j
-count_there m i j v other = let n = length-set m (36 * i + 1) v in frame_same j j (set m (36 * i + 1) v) m (omega arith) (λ p slot.
-    let apart : 36 * j + p ≢ 36 * i + 1 = λ same. other (omega arith) in
-    get_or-set_other m (36 * i + 1) (36 * j + p) v 0 apart)
+    pub raised_whole : All IsSlot (items ++ drop k old)
+    raised_whole =
+        All-append IsSlot items (drop k old)
+        (All-same IsSlot items (map raised_slot (take k old)) raised_all
+        (All-map IsSlot raised_slot (take k old) (All-weaker IsSlot (λ s. IsSlot (raised_slot s)) (λ s long. simp length-set long) (take k old) (All-take IsSlot k old whole))))
+        (All-drop IsSlot k old whole)
 
--- the frames in the first i slots have been overtaken once more, and now the one in slot i is
-module _ (i : ℕ) (was m : List ℕ) (within : 36 * i + 36 ≤ length m)
-    (older : (j : ℕ) → j < i → frame_in m j ≡ raised (frame_in was j)) (younger : (j : ℕ) → i ≤ j → frame_in m j ≡ frame_in was j) where
-  abbrev counted : List ℕ
-  counted = set m (36 * i + 1) (get_or m (36 * i + 1) 0 + 1)
+    pub frames_overtaken : (used : ℕ) → k ≤ used → used ≤ length old → frames_in used (concat (items ++ drop k old)) ≡ overtaken k (frames_in used (concat old))
+    frames_overtaken used few all =
+        frames_end_to_end used (items ++ drop k old) raised_whole (simp (raised_all, length-append, length-map, length-take, length-drop) (omega arith))
+        ∙ ap (λ ys. map slot_frame (take used (ys ++ drop k old))) raised_all
+        ∙ frames_raised k used old few all whole ∙ ap (overtaken k) (sym (frames_end_to_end used old whole all))
 
-  pub older_more : (j : ℕ) → j < i + 1 → frame_in counted j ≡ raised (frame_in was j)
-  older_more j below =
-      ⊎_elim
-      (λ (same : j ≡ i).
-      ap (frame_in counted) same ∙ count_here m i (get_or m (36 * i + 1) 0 + 1) within ∙ ap raised (younger i (omega arith)) ∙ ap (λ q. raised (frame_in was q)) (sym same))
-      (λ (other : j ≡ i → ⊥). count_there m i j (get_or m (36 * i + 1) 0 + 1) other ∙ older j (omega arith))
-      (cases_eq j i)
+-- a fresh frame is written into the first slot that is not used
+pub frames_pushed : (used : ℕ) (slots : List (List ℕ)) (bs : Bytes) → All IsSlot slots → used < length slots → length bs ≤ 32 → All IsSlot (set slots used (with_frame (get_or slots used []) 0 bs)) → frames_in (used + 1) (concat (set slots used (with_frame (get_or slots used []) 0 bs))) ≡ frames_in used (concat slots) ++ (fresh bs ∷ [])
+frames_pushed used slots bs whole room few whole' =
+    let s = get_or slots used [] in
+    frames_end_to_end (used + 1) (set slots used (with_frame s 0 bs)) whole' (simp length-set (omega arith))
+    ∙ ap (map slot_frame) (take_more_set slots used (with_frame s 0 bs) room)
+    ∙ map_push slot_frame (take used slots) (with_frame s 0 bs)
+    ∙ ap₂ (λ ws w. ws ++ (w ∷ [])) (sym (frames_end_to_end used slots whole (omega arith))) (written s bs (All-get_or IsSlot slots used [] room whole) few)
 
-  pub younger_more : (j : ℕ) → i + 1 ≤ j → frame_in counted j ≡ frame_in was j
-  younger_more j behind = count_there m i j (get_or m (36 * i + 1) 0 + 1) (λ same. omega arith) ∙ younger j (omega arith)
+-- memory is cut into whole slots
+pub chunks_whole : (n : ℕ) (memory : List ℕ) → 36 * n ≤ length memory → All IsSlot (first_chunks 36 n memory)
+chunks_whole zero memory within = All-nil IsSlot
+chunks_whole (suc n) memory within =
+    let l = length-drop 36 memory in
+    All-cons IsSlot (take 36 memory) (first_chunks 36 n (drop 36 memory)) (length-take-le 36 memory (omega arith)) (chunks_whole n (drop 36 memory) (omega arith))
 
--- two lists by places from a on: at the first k places g gives what f does, overtaken once more
-overtaken_from : (f g : ℕ → Waiting Bytes) (a k n : ℕ) → k ≤ n → ((i : ℕ) → a ≤ i → i < a + k → g i ≡ raised (f i)) → ((i : ℕ) → a + k ≤ i → g i ≡ f i) → map g (range_with_len a n) ≡ overtaken k (map f (range_with_len a n))
-overtaken_from f g a zero zero few older younger = refl
-overtaken_from f g a (suc k) zero few older younger = absurd (omega arith)
-overtaken_from f g a zero (suc n) few older younger = λ t. younger a (omega arith) t ∷ overtaken_from f g (a + 1) zero n (omega arith) (λ i from to. absurd (omega arith)) (λ i from. younger i (omega arith)) t
-overtaken_from f g a (suc k) (suc n) few older younger = λ t. older a (omega arith) (omega arith) t ∷ overtaken_from f g (a + 1) k n (omega arith) (λ i from to. older i (omega arith) (omega arith)) (λ i from. younger i (omega arith)) t
-
--- the frames in the first k slots have been overtaken once more
-pub frames_overtaken : (k used : ℕ) (m w : List ℕ) → k ≤ used → ((i : ℕ) → i < k → frame_in w i ≡ raised (frame_in m i)) → ((i : ℕ) → k ≤ i → frame_in w i ≡ frame_in m i) → frames_in used w ≡ overtaken k (frames_in used m)
-frames_overtaken k used m w few older younger = overtaken_from (frame_in m) (frame_in w) 0 k used few (λ i from to. older i (omega arith)) (λ i from. younger i (omega arith))
+-- and as many of them count as of the memory
+pub chunks_counted : (memory : List ℕ) (slots : List (List ℕ)) → slots ≡ first_chunks 36 (length memory / 36) memory → length slots ≡ length memory / 36 → slot_count (concat slots) ≡ slot_count memory
+chunks_counted memory slots is long =
+    slots_counted slots (All-same IsSlot slots (first_chunks 36 (length memory / 36) memory) is (chunks_whole (length memory / 36) memory (omega arith))) ∙ ap (λ n. min n 1000) long

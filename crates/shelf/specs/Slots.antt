@@ -1,7 +1,9 @@
 -- Frames in slots of 36 bytes: the length, the count, two bytes that are not used, and room for 32 bytes.
-use Rattle.std.specs.Prelude.{ℕ, ◌+◌, ◌*◌, ◌/◌, min, List, map, length, take, drop, slice_index, slice_set}
+use Rattle.std.specs.Prelude.{◌≡◌, ℕ, ◌+◌, ◌*◌, ◌/◌, min, List, [], ◌∷◌, map, length, take, drop, slice_index, slice_set}
 use Rattle.std.proofs.Math.Seq.{paste}
-use Rattle.std.specs.List.{range_with_len}
+use Rattle.std.proofs.Common.{refl, arith, length-append}
+use Rattle.std.proofs.lemmas.List.Elements.{All-head, All-tail}
+use Rattle.std.specs.List.{All, concat, range_with_len}
 use Rattle.air.specs.Waiting.{Waiting, AirState}
 use Rattle.air.specs.Steps.{Bytes}
 
@@ -24,3 +26,18 @@ slot_state memory used bound = record { waiting = frames_in used memory; capacit
 -- the memory after a fresh frame was written into slot i
 abbrev pub with_frame : List ℕ → ℕ → Bytes → List ℕ
 with_frame memory i bs = paste (slice_set (slice_set memory (36 * i) (length bs)) (36 * i + 1) 0) (36 * i + 4) bs (length bs)
+
+-- a slot has 36 bytes
+abbrev pub IsSlot : List ℕ → Type 0
+IsSlot slot = length slot ≡ 36
+
+length-concat : (slots : List (List ℕ)) → All IsSlot slots → length (concat slots) ≡ 36 * length slots
+length-concat [] whole = refl
+length-concat (s ∷ slots) whole =
+    let first : length s ≡ 36 = All-head IsSlot s slots whole in
+    let rest = length-concat slots (All-tail IsSlot s slots whole) in
+    simp length-append (omega arith)
+
+-- end to end, each slot counts
+pub slots_counted : (slots : List (List ℕ)) → All IsSlot slots → slot_count (concat slots) ≡ min (length slots) 1000
+slots_counted slots whole = let n = length-concat slots whole in omega arith

@@ -15,6 +15,7 @@ impl<'a> Shelf<'a> {
     pub fn new(memory: &'a mut [u8], bound: u8) -> Shelf<'a>
         ensures { shelf_state result ≡ empty_air (slot_count memory.old) bound }
     {
+        let (memory, _) = memory.as_chunks_mut();
         Shelf {
             slots: Slots { memory, used: 0 },
             bound,

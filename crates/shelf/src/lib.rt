@@ -2,6 +2,7 @@
 #![tactic(auto)]
 
 ghost use Rattle.std.specs.Prelude.{◌≡◌, ◌≤◌, length};
+ghost use Rattle.std.specs.List.{concat};
 ghost use Rattle.air.specs.Places.{EachFine};
 ghost use Rattle.shelf.specs.Slots.{frames_in};
 
@@ -23,7 +24,7 @@ pub struct Shelf<'a> {
     slots: Slots<'a>,
     bound: u8,
     // this follows, and is here for the prover
-    ghost listed: { length (frames_in slots.used slots.memory.now) ≡ slots.used },
+    ghost listed: { length (frames_in slots.used (concat slots.memory.now)) ≡ slots.used },
     ghost small: { bound ≤ 255 },
-    ghost each: { EachFine bound (frames_in slots.used slots.memory.now) },
+    ghost each: { EachFine bound (frames_in slots.used (concat slots.memory.now)) },
 }

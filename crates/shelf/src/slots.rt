@@ -1,45 +1,59 @@
 // Lent memory, in slots for a frame each.
-ghost use Rattle.std.specs.Prelude.{◌≡◌, ℕ, ◌+◌, ◌<◌, ◌≤◌, length};
+ghost use Rattle.std.specs.Prelude.{◌≡◌, ℕ, ◌+◌, ◌<◌, ◌≤◌, [], length, min, slice_index_or, slice_set};
+ghost use Rattle.std.specs.List.{All};
 ghost use Rattle.octets.specs.Areas.{front};
 ghost use Rattle.air.specs.Waiting.{overtaken, without};
-ghost use Rattle.shelf.specs.Slots.{frame_in, frames_in, slot_count, with_frame};
+ghost use Rattle.shelf.specs.Slots.{IsSlot, frame_in, with_frame};
 
 use crate::{MOST, SLOT};
 use octets::LONGEST;
 
-// Where the count of a frame stands in its slot, and where its bytes begin.
+// Where the length of a frame stands in its slot, its count, and the first of its bytes.
+const SIZE: usize = 0;
+
 const COUNT: usize = 1;
 
 const FRAME: usize = 4;
 
-// Slot i begins at byte 36 × i of the memory; the first `used` slots hold the waiting frames, oldest first.
+// The first `used` slots hold the waiting frames, oldest first.
 #[derive(Drop)]
 pub(crate) struct Slots<'a> {
-    pub memory: &'a mut [u8],
+    pub memory: &'a mut [[u8; SLOT]],
     pub used: usize,
-    ghost within: { used ≤ slot_count memory.now },
+    ghost whole: { All IsSlot memory.now },
+    ghost within: { used ≤ min (length memory.now) 1000 },
+}
+
+// Writes a frame that has just been put into a slot.
+fn write(slot: &mut [u8; SLOT], bytes: &[u8])
+    requires { length bytes.now ≤ 32 }
+    ensures { slot.new ≡ with_frame slot.old 0 bytes.now }
+{
+    let n = bytes.len();
+    slot[SIZE] = n as u8;
+    slot[COUNT] = 0;
+    slot[FRAME..FRAME + n].copy_from_slice(bytes);
 }
 
 impl<'a> Slots<'a> {
+    ghost use Rattle.shelf.specs.Shelves.{frames_of, memory_of};
+
     // How many slots there are.
     pub(crate) fn capacity(&self) -> usize
-        ensures { result ≡ slot_count self.now.memory.now }
+        ensures { result ≡ min (length self.now.memory.now) 1000 }
     {
-        (self.memory.len() / SLOT).min(MOST)
+        self.memory.len().min(MOST)
     }
 
     // Writes a frame that has just been put into the first slot that is not used.
     pub(crate) fn push(&mut self, bytes: &[u8])
-        requires room { self.old.used < slot_count self.old.memory.now }
+        requires room { self.old.used < min (length self.old.memory.now) 1000 }
         requires few { length bytes.now ≤ 32 }
         ensures used { self.new.used ≡ self.old.used + 1 }
-        ensures memory { self.new.memory.now ≡ with_frame self.old.memory.now self.old.used bytes.now }
+        ensures memory { self.new.memory.now ≡ slice_set self.old.memory.now self.old.used (with_frame (slice_index_or self.old.memory.now self.old.used []) 0 bytes.now) }
     {
-        let at = SLOT * self.used;
-        let n = bytes.len();
-        self.memory[at] = n as u8;
-        self.memory[at + COUNT] = 0;
-        self.memory[at + FRAME..at + FRAME + n].copy_from_slice(bytes);
+        let memory = &mut *self.memory;
+        write(&mut memory[self.used], bytes);
         self.used += 1;
     }
 
@@ -48,42 +62,43 @@ impl<'a> Slots<'a> {
         requires { k < self.old.used }
         ensures len { length self.new.memory.now ≡ length self.old.memory.now }
         ensures used { self.new.used + 1 ≡ self.old.used }
-        ensures frames { frames_in self.new.used self.new.memory.now ≡ without k (frames_in self.old.used self.old.memory.now) }
+        ensures frames { frames_of self.new ≡ without k (frames_of self.old) }
     {
-        self.memory[SLOT * k..SLOT * self.used].rotate_left(SLOT);
+        self.memory[k..self.used].rotate_left(1);
         self.used -= 1;
     }
 
     // The count of the frame in slot k.
     pub(crate) fn count(&self, k: usize) -> u8
         requires { k < self.now.used }
-        ensures { result ≡ (frame_in self.now.memory.now k).count }
+        ensures { result ≡ (frame_in (memory_of self.now) k).count }
     {
-        self.memory[SLOT * k + COUNT]
+        self.memory[k][COUNT]
     }
 
     // Each frame before slot k is overtaken once more.
     pub(crate) fn raise_counts(&mut self, k: usize)
         requires at { k < self.old.used }
-        requires small { (i : ℕ) → i < k → (frame_in self.old.memory.now i).count < 255 }
+        requires small { (i : ℕ) → i < k → (frame_in (memory_of self.old) i).count < 255 }
         ensures len { length self.new.memory.now ≡ length self.old.memory.now }
         ensures used { self.new.used ≡ self.old.used }
-        ensures frames { frames_in self.new.used self.new.memory.now ≡ overtaken k (frames_in self.old.used self.old.memory.now) }
+        ensures frames { frames_of self.new ≡ overtaken k (frames_of self.old) }
     {
-        for i in 0..k {
-            self.memory[SLOT * i + COUNT] += 1;
+        for slot in self.memory[..k].iter_mut() {
+            slot[COUNT] += 1;
         }
     }
 
     // Copies the frame in slot k into the front of the area, and answers its length.
     pub(crate) fn copy_to(&self, k: usize, area: &mut [u8; LONGEST]) -> usize
         requires { k < self.now.used }
-        ensures size { result ≡ length (frame_in self.now.memory.now k).frame }
-        ensures area { area.new ≡ front (frame_in self.now.memory.now k).frame area.old }
+        ensures size { result ≡ length (frame_in (memory_of self.now) k).frame }
+        ensures area { area.new ≡ front (frame_in (memory_of self.now) k).frame area.old }
     {
-        let at = SLOT * k;
-        let n = usize::from(self.memory[at]).min(LONGEST);
-        area[..n].copy_from_slice(&self.memory[at + FRAME..at + FRAME + n]);
+        let memory = &*self.memory;
+        let slot = &memory[k];
+        let n = usize::from(slot[SIZE]).min(LONGEST);
+        area[..n].copy_from_slice(&slot[FRAME..FRAME + n]);
         n
     }
 }

@@ -7,7 +7,7 @@ use Rattle.air.specs.Waiting.{overtaken, repeated}
 use Rattle.air.proofs.StepLaws.{answer_free}
 use Rattle.air.proofs.FineLaws.{below_bound, each_overtaken}
 use Rattle.shelf.specs.Slots.{frame_in}
-use Rattle.shelf.specs.Shelves.{shelf_state}
+use Rattle.shelf.specs.Shelves.{memory_of, shelf_state}
 use Rattle.shelf.proofs.ShelfLaws.{changed, kept, waits_in}
 use Rattle.shelf.proofs.calls.ShelfAir.repeat.Goals as goal
 
@@ -19,7 +19,7 @@ raise_counts-requires-clause-small c =
     let free : answer_refusal k (shelf_state s) ≡ None = search rules in
     let known = answer_free k (shelf_state s) free in
     λ i below.
-    let here = get_or-map-range_with_len (frame_in s.slots.memory.now) 0 s.slots.used i i nothing (omega arith) (omega arith) in
+    let here = get_or-map-range_with_len (frame_in (memory_of s.slots)) 0 s.slots.used i i nothing (omega arith) (omega arith) in
     let less = below_bound s.bound k i (shelf_state s).waiting s.each known.1 below (omega arith) in
     omega (arith, ap (λ w. w.count) here)
 

@@ -1,24 +1,30 @@
-use Rattle.std.proofs.Common.{◌+◌, ◌*◌, ◌≤◌, length, get_or, ap, ◌∙◌, arith, length-set}
-use Rattle.shelf.proofs.SlotLaws.{frames_overtaken, older_more, younger_more}
+use Rattle.std.proofs.Common.{get_or, ap, arith, length-take}
+use Rattle.shelf.proofs.SlotLaws.{frame_end_to_end, frames_overtaken, next_slot, raised_whole, slot_raised}
 use Rattle.shelf.proofs.slots.Slots.raise_counts.Goals as goal
 
-pub overflow_add-self-in-loop-i : goal.overflow_add-self-in-loop-i
-overflow_add-self-in-loop-i c =
-    let same = ap (λ w. w.count) (c.loop-i.invariant.3 c.loop-i.i (omega arith)) in
-    let small = c.requires.small c.loop-i.i c.loop-i-test.true in
-    omega arith
+pub overflow_add-slot : goal.overflow_add-slot
+overflow_add-slot c =
+    let t = c.args.self.now in
+    let i = c.loop-slot.slot-index in
+    let l = length-take c.args.k t.memory.now in
+    let next = next_slot t.memory.now c.loop-slot.slot-items c.args.k i (omega arith) c.loop-slot.invariant (omega arith) in
+    let here = frame_end_to_end t.memory.now i t.whole (omega arith) in
+    omega (arith, c.requires.small i (omega arith), ap (λ w. w.count) here, ap (λ s. get_or s 1 0) next)
 
-pub loop-i-preserved : goal.loop-i-preserved
-loop-i-preserved c =
-    let i = c.loop-i.i in
-    let was = c.args.self.now.memory.now in
-    let m = c.loop-i.self.memory.now in
-    let h = c.loop-i.invariant in
-    let within : 36 * i + 36 ≤ length m = omega arith in
-    (length-set m (36 * i + 1) (get_or m (36 * i + 1) 0 + 1) ∙ h.0, h.1, older_more i was m within h.2 h.3, younger_more i was m within h.2 h.3)
+pub loop-slot-preserved : goal.loop-slot-preserved
+loop-slot-preserved c =
+    let t = c.args.self.now in
+    let l = length-take c.args.k t.memory.now in
+    slot_raised t.memory.now c.loop-slot.slot-items c.args.k c.loop-slot.slot-index (omega arith) c.loop-slot.invariant (omega arith)
+
+pub invariant_of-self-clause-whole : goal.invariant_of-self-clause-whole
+invariant_of-self-clause-whole c =
+    let t = c.args.self.now in
+    let l = length-take c.args.k t.memory.now in
+    raised_whole t.memory.now c.loop-slot.slot-items c.args.k c.loop-slot.slot-index (omega arith) c.loop-slot.invariant (omega arith) t.whole
 
 pub returns-clause-frames : goal.returns-clause-frames
 returns-clause-frames c =
-    let h = c.loop-i.invariant in
-    let same = h.1 in
-    rw h.1 (frames_overtaken c.args.k c.args.self.now.used c.args.self.now.memory.now c.loop-i.self.memory.now (omega arith) (λ i below. h.2 i (omega arith)) (λ i from. h.3 i (omega arith)))
+    let t = c.args.self.now in
+    let l = length-take c.args.k t.memory.now in
+    frames_overtaken t.memory.now c.loop-slot.slot-items c.args.k c.loop-slot.slot-index (omega arith) c.loop-slot.invariant (omega arith) t.whole t.used (omega arith) (omega arith)

@@ -1,12 +1,13 @@
 use Rattle.std.proofs.Common.{arith}
-use Rattle.shelf.proofs.SlotLaws.{frames_closed, turned, turned_older, turned_younger}
+use Rattle.shelf.proofs.SlotLaws.{frames_closed, turned_whole}
 use Rattle.shelf.proofs.slots.Slots.remove.Goals as goal
+
+pub invariant_of-self-clause-whole : goal.invariant_of-self-clause-whole
+invariant_of-self-clause-whole c =
+    let t = c.args.self.now in
+    turned_whole c.args.k t.used t.memory.now c.rotate_left.new.self c.requires (omega arith) c.rotate_left.ensures.after t.whole
 
 pub returns-clause-frames : goal.returns-clause-frames
 returns-clause-frames c =
-    let k = c.args.k in
-    let used = c.args.self.now.used in
-    let m = c.args.self.now.memory.now in
-    let part = c.rotate_left.new.self in
-    let is = c.rotate_left.ensures.after in
-    frames_closed k used m (turned k used m part c.requires (omega arith) is) c.requires (turned_older k used m part c.requires (omega arith) is) (turned_younger k used m part c.requires (omega arith) is)
+    let t = c.args.self.now in
+    frames_closed c.args.k t.used t.memory.now c.rotate_left.new.self c.requires (omega arith) c.rotate_left.ensures.after t.whole
