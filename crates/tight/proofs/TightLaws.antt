@@ -1,7 +1,7 @@
 -- A tight air goes through each step as the air below does.
-use Rattle.std.proofs.Common.{◌≡◌, ℕ, zero, suc, ◌+◌, ◌<◌, ◌≤◌, min, false, eqb, List, [], ◌∷◌, map, None, refl, ap, ◌∙◌, ap₂, ⊎_elim, arith}
+use Rattle.std.proofs.Common.{◌≡◌, ℕ, zero, suc, ◌+◌, ◌<◌, ◌≤◌, min, false, eqb, List, [], ◌∷◌, map, None, refl, ap, ◌∙◌, ap₂, arith}
 use Rattle.std.proofs.lemmas.List.{length-map}
-use Rattle.std.proofs.lemmas.Bool.{cases_lt, eqb-false, ne_eqb, or_from, or_parts}
+use Rattle.std.proofs.lemmas.Bool.{eqb-false, ne_eqb, or_from, or_parts}
 use Rattle.std.proofs.lemmas.Bool.Decides.{nat_tests}
 use Rattle.std.specs.List.{slice_get}
 use Rattle.air.specs.Waiting.{Waiting, AirState, barred, lost, overtaken, repeated, taken, with_waiting, without}
@@ -15,24 +15,28 @@ map-without f zero (x ∷ xs) = refl
 map-without f (suc k) (x ∷ xs) = ap (λ r. f x ∷ r) (map-without f k xs)
 
 module _ {W : Type 0} where
+  -- a frame that does not bar under the smaller bound is below it, and nor do those behind it bar
+  pub unbarred : (low k : ℕ) (w : Waiting W) (ws : List (Waiting W)) → barred low (suc k) (map (capped low) (w ∷ ws)) ≡ false → (w.count < low) × (barred low k (map (capped low) ws) ≡ false)
+  unbarred low k w ws free =
+      let parts = or_parts (eqb (min w.count low) low) (barred low k (map (capped low) ws)) free in
+      let other = eqb-false (min w.count low) low parts.0 in
+      (omega arith, parts.1)
+
   -- what does not bar under the smaller bound does not bar below
   free_below : (low own k : ℕ) (ws : List (Waiting W)) → low ≤ own → barred low k (map (capped low) ws) ≡ false → barred own k ws ≡ false
   free_below low own zero ws less free = refl
   free_below low own (suc k) [] less free = refl
   free_below low own (suc k) (w ∷ ws) less free =
-      let parts = or_parts (eqb (min w.count low) low) (barred low k (map (capped low) ws)) free in
-      let other = eqb-false (min w.count low) low parts.0 in
-      or_from (eqb w.count own) (barred own k ws) (ne_eqb w.count own (λ same. other (omega arith))) (free_below low own k ws less parts.1)
+      let parts = unbarred low k w ws free in
+      or_from (eqb w.count own) (barred own k ws) (ne_eqb w.count own (λ same. omega arith)) (free_below low own k ws less parts.1)
 
-  -- a frame that does not bar is below the bound, so its count is not capped as it is overtaken
+  -- so its count is not capped as it is overtaken
   map-overtaken : (low k : ℕ) (ws : List (Waiting W)) → barred low k (map (capped low) ws) ≡ false → map (capped low) (overtaken k ws) ≡ overtaken k (map (capped low) ws)
   map-overtaken low zero ws free = refl
   map-overtaken low (suc k) [] free = refl
   map-overtaken low (suc k) (w ∷ ws) free =
-      let parts = or_parts (eqb (min w.count low) low) (barred low k (map (capped low) ws)) free in
-      let other = eqb-false (min w.count low) low parts.0 in
-      let one : min (w.count + 1) low ≡ min w.count low + 1 =
-      ⊎_elim (λ (less : w.count < low). omega arith) (λ (more : low ≤ w.count). absurd (other (omega arith))) (cases_lt w.count low) in
+      let parts = unbarred low k w ws free in
+      let one : min (w.count + 1) low ≡ min w.count low + 1 = omega arith in
       ap₂ (λ n r. record { frame = w.frame; count = n } ∷ r) one (map-overtaken low k ws parts.1)
 
 pub bytes_capped : (low k : ℕ) (ws : List (Waiting Bytes)) → bytes_of (slice_get (map (capped low) ws) k) ≡ bytes_of (slice_get ws k)

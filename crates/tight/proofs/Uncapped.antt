@@ -1,7 +1,6 @@
 -- No count in the air below ever passes the bound of the tight air, so none is capped.
-use Rattle.std.proofs.Common.{◌≡◌, ℕ, zero, suc, ◌+◌, ◌≤◌, min, false, eqb, List, [], ◌∷◌, map, Some, None, Option, refl, subst, ap₂, arith}
+use Rattle.std.proofs.Common.{◌≡◌, ℕ, zero, suc, ◌≤◌, min, false, List, [], ◌∷◌, map, Some, None, Option, refl, subst, ap₂, arith}
 use Rattle.std.proofs.ByRecursion.{All-push}
-use Rattle.std.proofs.lemmas.Bool.{eqb-false, or_parts}
 use Rattle.std.specs.List.{AllByRecursion}
 use Rattle.refusal.specs.declared.Refusal.{Refusal}
 use Rattle.air.specs.Waiting.{Waiting, AirState, barred, fresh, joined, lost, overtaken, repeated, taken}
@@ -10,6 +9,7 @@ use Rattle.air.specs.Histories.{Call, loses, puts, repeats, takes}
 use Rattle.air.proofs.Nth.{all_without}
 use Rattle.air.proofs.StepLaws.{answer_free}
 use Rattle.tight.specs.Tightened.{capped, tightened}
+use Rattle.tight.proofs.TightLaws.{unbarred}
 use Rattle.tight.specs.SameList.{SameList, air_below, through}
 
 -- no count is above the bound
@@ -29,20 +29,17 @@ within_overtaken : (low k : ℕ) (ws : List (Waiting Bytes)) → Within low ws �
 within_overtaken low zero ws within free = within
 within_overtaken low (suc k) [] within free = tt
 within_overtaken low (suc k) (w ∷ ws) within free =
-    let parts = or_parts (eqb (min w.count low) low) (barred low k (map (capped low) ws)) free in
-    let other = eqb-false (min w.count low) low parts.0 in
-    let few = within.0 in
-    let less : w.count + 1 ≤ low = omega arith in
-    (less, within_overtaken low k ws within.1 parts.1)
+    let parts = unbarred low k w ws free in
+    (omega arith, within_overtaken low k ws within.1 parts.1)
 
 module _ (given own : ℕ) where
   -- what holds of the air below: its bound is its own, and no count is above the smaller of that and the one given
   abbrev Held : AirState Bytes → Type 0
   Held a = (a.bound ≡ own) × Within (min given own) a.waiting
 
-  -- it holds after a call if it does both where the call is refused and where it is not
-  held_step : (refusal : Option Refusal) (after before : AirState Bytes) → Held after → Held before → Held (step_unless refusal after before).1
-  held_step None after before done not = done
+  -- it holds after a call if it holds before, and after where the call is not refused
+  held_step : (refusal : Option Refusal) (after before : AirState Bytes) → (refusal ≡ None → Held after) → Held before → Held (step_unless refusal after before).1
+  held_step None after before done not = done refl
   held_step (Some refusal) after before done not = not
 
   held_answer : (refusal : Option Refusal) (frame : Bytes) (after before : AirState Bytes) (area : Bytes) → Held after → Held before → Held (answer_unless refusal frame after before area).1
@@ -52,26 +49,21 @@ module _ (given own : ℕ) where
   held_lost : (k : ℕ) (a : AirState Bytes) → Held a → Held (lost k a)
   held_lost k a held = (held.0, all_without (λ w. w.count ≤ min given own) k a.waiting held.1)
 
-  module _ (k : ℕ) (a : AirState Bytes) (held : Held a) (area : Bytes) where
-    held_repeated : answer_refusal k (tightened given a) ≡ None → Held (repeated k a)
-    held_repeated free =
-        let unbarred = (answer_free k (tightened given a) free).1 in
-        (held.0, within_overtaken (min given own) k a.waiting held.1 (subst (λ b. barred (min given b) k (map (capped (min given b)) a.waiting) ≡ false) held.0 unbarred))
-
-    held_take : (refusal : Option Refusal) → answer_refusal k (tightened given a) ≡ refusal → Held (step_unless refusal (take_step k a area).1 a).1
-    held_take None free = held_answer (answer_refusal k a) (frame_at k a) (taken k a) a area (held_lost k (repeated k a) (held_repeated free)) held
-    held_take (Some refusal) refused = held
-
-    held_repeat : (refusal : Option Refusal) → answer_refusal k (tightened given a) ≡ refusal → Held (step_unless refusal (repeat_step k a area).1 a).1
-    held_repeat None free = held_answer (answer_refusal k a) (frame_at k a) (repeated k a) a area (held_repeated free) held
-    held_repeat (Some refusal) refused = held
+  held_repeated : (k : ℕ) (a : AirState Bytes) → Held a → answer_refusal k (tightened given a) ≡ None → Held (repeated k a)
+  held_repeated k a held free =
+      let passed = (answer_free k (tightened given a) free).1 in
+      (held.0, within_overtaken (min given own) k a.waiting held.1 (subst (λ b. barred (min given b) k (map (capped (min given b)) a.waiting) ≡ false) held.0 passed))
 
   held_through : (c : Call) (a : AirState Bytes) → Held a → Held (through given c a)
   held_through (puts bs) a held =
-      held_step (put_refusal bs a) (joined bs a) a (held.0, All-push (λ w. w.count ≤ min given own) a.waiting (fresh bs) held.1 (omega arith)) held
-  held_through (loses k) a held = held_step (place_refusal k a) (lost k a) a (held_lost k a held) held
-  held_through (takes k area) a held = held_take k a held area (answer_refusal k (tightened given a)) refl
-  held_through (repeats k area) a held = held_repeat k a held area (answer_refusal k (tightened given a)) refl
+      held_step (put_refusal bs a) (joined bs a) a (λ free. (held.0, All-push (λ w. w.count ≤ min given own) a.waiting (fresh bs) held.1 (omega arith))) held
+  held_through (loses k) a held = held_step (place_refusal k a) (lost k a) a (λ free. held_lost k a held) held
+  held_through (takes k area) a held =
+      held_step (answer_refusal k (tightened given a)) (take_step k a area).1 a
+      (λ free. held_answer (answer_refusal k a) (frame_at k a) (taken k a) a area (held_lost k (repeated k a) (held_repeated k a held free)) held) held
+  held_through (repeats k area) a held =
+      held_step (answer_refusal k (tightened given a)) (repeat_step k a area).1 a
+      (λ free. held_answer (answer_refusal k a) (frame_at k a) (repeated k a) a area (held_repeated k a held free) held) held
 
   held_below : (capacity : ℕ) (h : List Call) → Held (air_below given capacity own h)
   held_below capacity [] = (refl, tt)
