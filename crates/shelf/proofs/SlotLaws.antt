@@ -93,7 +93,7 @@ raised_in s long =
     let bytes = drop-set-lt 4 s 1 v (omega arith) in
     λ t. record { frame = take (min (size t) 32) (bytes t); count = get_or-set_same s 1 v 0 (omega arith) t }
 
--- the frames in the first k slots are
+-- where the first k slots are raised, the frames before place k are overtaken once more
 frames_raised : (k used : ℕ) (slots : List (List ℕ)) → k ≤ used → used ≤ length slots → All IsSlot slots → map slot_frame (take used (map raised_slot (take k slots) ++ drop k slots)) ≡ overtaken k (map slot_frame (take used slots))
 frames_raised zero used slots few within whole = refl
 frames_raised (suc k) zero slots few within whole = absurd (omega arith)
@@ -101,6 +101,7 @@ frames_raised (suc k) (suc used) [] few within whole = absurd (omega arith)
 frames_raised (suc k) (suc used) (s ∷ slots) few within whole =
     λ t. raised_in s (All-head IsSlot s slots whole) t ∷ frames_raised k used slots (omega arith) (omega arith) (All-tail IsSlot s slots whole) t
 
+-- what is made of each element is made of each that stays
 map-without : {A B : Type 0} (f : A → B) (k : ℕ) (xs : List A) → map f (without k xs) ≡ without k (map f xs)
 map-without f k [] = refl
 map-without f zero (x ∷ xs) = refl

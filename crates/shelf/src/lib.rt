@@ -18,7 +18,7 @@ pub const SLOT: usize = 36;
 // No shelf has room for more frames than this, however long its memory is.
 pub const MOST: usize = 1_000;
 
-// Slots in lent memory, and a bound.
+// Slots in lent memory, which hold the waiting frames, and a bound.
 #[derive(Drop)]
 pub struct Shelf<'a> {
     slots: Slots<'a>,

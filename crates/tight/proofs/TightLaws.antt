@@ -9,6 +9,7 @@ use Rattle.air.specs.Steps.{Bytes, answer_refusal, bytes_of}
 use Rattle.air.proofs.StepLaws.{answer_free}
 use Rattle.tight.specs.Tightened.{capped, tightened}
 
+-- what is made of each element is made of each that stays
 map-without : {A B : Type 0} (f : A → B) (k : ℕ) (xs : List A) → map f (without k xs) ≡ without k (map f xs)
 map-without f k [] = refl
 map-without f zero (x ∷ xs) = refl
@@ -39,11 +40,13 @@ module _ {W : Type 0} where
       let one : min (w.count + 1) low ≡ min w.count low + 1 = omega arith in
       ap₂ (λ n r. record { frame = w.frame; count = n } ∷ r) one (map-overtaken low k ws parts.1)
 
+-- a cap leaves the bytes as they are
 pub bytes_capped : (low k : ℕ) (ws : List (Waiting Bytes)) → bytes_of (slice_get (map (capped low) ws) k) ≡ bytes_of (slice_get ws k)
 bytes_capped low k [] = refl
 bytes_capped low zero (w ∷ ws) = refl
 bytes_capped low (suc k) (w ∷ ws) = bytes_capped low k ws
 
+-- a frame that is lost
 pub lost_tight : (given k : ℕ) (a : AirState Bytes) → tightened given (lost k a) ≡ lost k (tightened given a)
 lost_tight given k a = ap (with_waiting (tightened given a)) (map-without (capped (min given a.bound)) k a.waiting)
 
@@ -60,7 +63,7 @@ module _ (given k : ℕ) (a : AirState Bytes) (free : answer_refusal k (tightene
   free_there =
       let n = length-map a.waiting (capped low) in
       let at = (answer_free k (tightened given a) free).0 in
-      let unbarred = free_below low a.bound k a.waiting (omega arith) not_barred in
+      let passed = free_below low a.bound k a.waiting (omega arith) not_barred in
       grind (arith, nat_tests)
 
   -- and what it does there is the same
