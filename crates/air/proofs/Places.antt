@@ -1,5 +1,5 @@
 -- Laws of waiting frames by their places.
-use Rattle.std.proofs.Common.{◌≡◌, ℕ, zero, suc, ◌+◌, ◌≤◌, ◌==◌, Bool, List, [], ◌∷◌, length, get_or, drop, Some, refl, ap, arith}
+use Rattle.std.proofs.Common.{◌≡◌, ℕ, zero, suc, ◌+◌, ◌≤◌, ◌==◌, Bool, List, [], ◌∷◌, map, length, get_or, drop, Some, refl, ap, arith}
 use Rattle.std.proofs.lemmas.List.{drop_more}
 use Rattle.std.proofs.lemmas.Option.{slice_get-get_or}
 use Rattle.std.specs.List.{list_any, range_with_len, remove, slice_get}
@@ -13,6 +13,12 @@ without_is zero [] = refl
 without_is (suc k) [] = refl
 without_is zero (x ∷ xs) = refl
 without_is (suc k) (x ∷ xs) = ap (λ r. x ∷ r) (without_is k xs)
+
+-- what is made of each element is made of each that stays
+pub map-without : {A B : Type 0} (f : A → B) (k : ℕ) (xs : List A) → map f (without k xs) ≡ without k (map f xs)
+map-without f k [] = refl
+map-without f zero (x ∷ xs) = refl
+map-without f (suc k) (x ∷ xs) = ap (λ ys. f x ∷ ys) (map-without f k xs)
 
 -- whether a frame is barred, by the test of each place before it
 module _ (bound : ℕ) (ws : List (Waiting Bytes)) where

@@ -11,7 +11,7 @@ use Rattle.std.proofs.lemmas.List.Elements.{All-append, All-cons, All-drop, All-
 use Rattle.air.specs.Waiting.{Waiting, fresh, raised, overtaken, without}
 use Rattle.air.specs.Steps.{Bytes}
 use Rattle.air.specs.Places.{nothing}
-use Rattle.air.proofs.Places.{without_is}
+use Rattle.air.proofs.Places.{map-without, without_is}
 use Rattle.shelf.specs.Slots.{IsSlot, frame_in, frames_in, slot_count, slots_counted, with_frame}
 
 -- the frame in the first of some slots, and in a later one
@@ -100,12 +100,6 @@ frames_raised (suc k) zero slots few within whole = absurd (omega arith)
 frames_raised (suc k) (suc used) [] few within whole = absurd (omega arith)
 frames_raised (suc k) (suc used) (s ∷ slots) few within whole =
     λ t. raised_in s (All-head IsSlot s slots whole) t ∷ frames_raised k used slots (omega arith) (omega arith) (All-tail IsSlot s slots whole) t
-
--- what is made of each element is made of each that stays
-map-without : {A B : Type 0} (f : A → B) (k : ℕ) (xs : List A) → map f (without k xs) ≡ without k (map f xs)
-map-without f k [] = refl
-map-without f zero (x ∷ xs) = refl
-map-without f (suc k) (x ∷ xs) = ap (λ r. f x ∷ r) (map-without f k xs)
 
 -- the slots from k on are turned round by one
 module _ (k used : ℕ) (slots part : List (List ℕ)) (at : k < used) (within : used ≤ length slots)

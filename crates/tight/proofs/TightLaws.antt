@@ -4,16 +4,11 @@ use Rattle.std.proofs.lemmas.List.{length-map}
 use Rattle.std.proofs.lemmas.Bool.{eqb-false, ne_eqb, or_from, or_parts}
 use Rattle.std.proofs.lemmas.Bool.Decides.{nat_tests}
 use Rattle.std.specs.List.{slice_get}
-use Rattle.air.specs.Waiting.{Waiting, AirState, barred, lost, overtaken, repeated, taken, with_waiting, without}
+use Rattle.air.specs.Waiting.{Waiting, AirState, barred, lost, overtaken, repeated, taken, with_waiting}
 use Rattle.air.specs.Steps.{Bytes, answer_refusal, bytes_of}
+use Rattle.air.proofs.Places.{map-without}
 use Rattle.air.proofs.StepLaws.{answer_free}
 use Rattle.tight.specs.Tightened.{capped, tightened}
-
--- what is made of each element is made of each that stays
-map-without : {A B : Type 0} (f : A → B) (k : ℕ) (xs : List A) → map f (without k xs) ≡ without k (map f xs)
-map-without f k [] = refl
-map-without f zero (x ∷ xs) = refl
-map-without f (suc k) (x ∷ xs) = ap (λ r. f x ∷ r) (map-without f k xs)
 
 module _ {W : Type 0} where
   -- a frame that does not bar under the smaller bound is below it, and nor do those behind it bar
