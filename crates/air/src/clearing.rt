@@ -1,6 +1,6 @@
 // Emptying an air.
-ghost use Rattle.std.specs.Prelude.{◌≡◌, ◌≤◌, length, drop};
-ghost use Rattle.air.specs.Waiting.{empty_air, with_waiting};
+ghost use Rattle.std.specs.Prelude.{◌≡◌};
+ghost use Rattle.air.specs.Waiting.{empty_air};
 
 use crate::{Air, Gauge};
 

@@ -21,8 +21,7 @@ fn is_held_up<A: Air>(air: &mut A, k: usize) -> bool {
     let mut area = [BLANK; LONGEST];
     let waiting = air.waiting();
     let oldest = air.count(0).ok();
-    let refused = air.take(k, &mut area).is_err_and(|refusal| refusal.number() == 8
-        && refusal.place().is_none());
+    let refused = air.take(k, &mut area) == Err(Refusal::BoundReached);
     refused && holds_only(&area, &[]) && air.waiting() == waiting && air.count(0).ok() == oldest
 }
 

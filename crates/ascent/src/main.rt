@@ -8,7 +8,7 @@ use refusal::Refusal;
 use std::alloc::{AllocError, Global};
 use std::collections::BTreeMap;
 use std::io;
-use telling::{Decimal, HUT_BOUND, Heard, MAST_BOUND, Told};
+use telling::{Decimal, HUT_BOUND, Heard, MAST_BOUND, READING, Told};
 
 // Prints bytes in rows of sixteen.
 fn show_bytes(rt: &impl Print, bytes: &[u8]) -> io::Result<()> {
@@ -24,14 +24,7 @@ fn show_bytes(rt: &impl Print, bytes: &[u8]) -> io::Result<()> {
 
 // Makes a reading, and tries to make the same with a little more humidity than there can be.
 fn tell_making(rt: &impl Print) -> anyhow::Result<Reading> {
-    let reading = Reading {
-        time: 4_212,
-        height: 15_234,
-        temperature: -425,
-        humidity: 783,
-        pressure: 8_431,
-    }
-    .make()?;
+    let reading = READING.make()?;
     println!(rt; "The mast makes a reading: {}.", Told(reading))?;
     let humidity = Reading::MAX_HUMIDITY + 1;
     let percent = Decimal::Tenths(i64::from(humidity));

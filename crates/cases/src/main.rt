@@ -74,11 +74,6 @@ fn too_humid() -> Result<[u8; 28], Refusal> {
     Ok(bytes)
 }
 
-// Whether a call refuses by this number and this place.
-fn refuses<T: Drop>(answer: Result<T, Refusal>, number: u8, place: Option<usize>) -> bool {
-    answer.is_err_and(|refusal| refusal.number() == number && refusal.place() == place)
-}
-
 // K: humidity 1,000 is made; 1,001 is refused by 17, and in a frame by 15 at place 22.
 fn humidity() -> bool {
     let Ok(bytes) = too_humid() else {
@@ -86,8 +81,8 @@ fn humidity() -> bool {
     };
     let heard = hear::<Reading>(frames_of(Side::Mast), &bytes);
     humid(1_000).make() == Ok(humid(1_000))
-        && refuses(humid(1_001).make(), 17, None)
-        && refuses(heard, 15, Some(22))
+        && humid(1_001).make() == Err(Refusal::FieldOutOfRange)
+        && heard == Err(Refusal::NoElement { place: 22 })
 }
 
 // The worked example of RFC 1071: the words sum to ddf2, and the check is its complement.

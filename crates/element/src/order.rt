@@ -90,6 +90,7 @@ impl Kind for Order {
             Order::Point { bearing, .. } if bearing > Self::MAX_BEARING => Some(1),
             Order::Point { elevation, .. } if elevation > Self::MAX_ELEVATION => Some(3),
             Order::Tune { .. } | Order::Point { .. } => None,
+            // Any number is in range: it is read for its type's bound alone.
             Order::Note { number: _number } => None,
         }
     }

@@ -1,7 +1,7 @@
 // The pool: an air with a table of its own.
 #![tactic(auto)]
 
-ghost use Rattle.std.specs.Prelude.{◌≡◌, ◌≤◌, length};
+ghost use Rattle.std.specs.Prelude.{◌≤◌, length};
 ghost use Rattle.air.specs.Places.{EachFine};
 ghost use Rattle.pool.specs.Entries.{frames_in};
 

@@ -9,7 +9,7 @@ use frame::{Frame, LONGEST, hear, write};
 use pool::Pool;
 use refusal::Refusal;
 use std::io;
-use telling::{HUT_BOUND, Heard};
+use telling::{HUT_BOUND, Heard, READING};
 use tight::Tight;
 
 // The frame with which the mast sends a reading, under a number of its cycle.
@@ -116,14 +116,7 @@ fn tell_relay<A: Air>(rt: &impl Print, air: &mut A, reading: Reading) -> anyhow:
 }
 
 fn tell(rt: &impl Print) -> anyhow::Result<()> {
-    let reading = Reading {
-        time: 4_212,
-        height: 15_234,
-        temperature: -425,
-        humidity: 783,
-        pressure: 8_431,
-    }
-    .make()?;
+    let reading = READING.make()?;
     let mut air = Tight::new(Pool::new(3), 1);
     println!(rt;
         "Between mast and hut lies an air: room for {} frames, overtaking bound {}.",

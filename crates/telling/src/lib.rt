@@ -30,6 +30,15 @@ pub const MAST_BOUND: Format = Format {
     },
 };
 
+// The reading that the told flights begin with.
+pub const READING: Reading = Reading {
+    time: 4_212,
+    height: 15_234,
+    temperature: -425,
+    humidity: 783,
+    pressure: 8_431,
+};
+
 // A number of tenths, or of hundredths, which is told with a decimal point.
 #[derive(Clone, Copy, PartialEq, Eq, Debug)]
 pub enum Decimal {

@@ -155,21 +155,25 @@ fn next(draw: u32) -> u32 {
     draw.wrapping_mul(1_664_525).wrapping_add(1_013_904_223)
 }
 
-// One call, of a kind and a place that a drawn number picks, on two airs: the same answer, the same area, the same counts.
-fn same_call<A: Air, B: Air>(a: &mut A, b: &mut B, draw: u32) -> Result<(), Fail> {
-    let mut one = [9; LONGEST];
-    let mut other = [9; LONGEST];
+// What an air answers to a call of a kind and a place that a drawn number picks, and what the area then holds. A call that answers no
+// length answers 0.
+fn called<A: Air>(air: &mut A, draw: u32) -> (Result<usize, Refusal>, [u8; LONGEST]) {
+    let mut area = [9; LONGEST];
     let k = (draw >> 20 & 0xf) as usize;
     let frame = draw.to_be_bytes();
     let n = (draw >> 12 & 0x7) as usize;
-    let bytes = &frame[0..n.min(4)];
-    match draw >> 28 {
-        0..=6 => check_eq(a.put(bytes), b.put(bytes))?,
-        7 | 8 => check_eq(a.lose(k), b.lose(k))?,
-        9..=11 => check_eq(a.repeat(k, &mut one), b.repeat(k, &mut other))?,
-        _ => check_eq(a.take(k, &mut one), b.take(k, &mut other))?,
-    }
-    check_eq(one, other)?;
+    let answer = match draw >> 28 {
+        0..=6 => air.put(&frame[0..n.min(4)]).map(|()| 0),
+        7 | 8 => air.lose(k).map(|()| 0),
+        9..=11 => air.repeat(k, &mut area),
+        _ => air.take(k, &mut area),
+    };
+    (answer, area)
+}
+
+// One call on two airs: the same answer, the same area, the same counts.
+fn same_call<A: Air, B: Air>(a: &mut A, b: &mut B, draw: u32) -> Result<(), Fail> {
+    check_eq(called(a, draw), called(b, draw))?;
     check_eq(a.waiting(), b.waiting())?;
     for i in 0..17 {
         check_eq(a.count(i), b.count(i))?;
