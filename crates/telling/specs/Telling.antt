@@ -1,6 +1,6 @@
 -- What is printed of numbers, of readings and of what a listener made of bytes.
-use Rattle.std.specs.Prelude.{ℕ, ℤ, pos, negsuc, ◌/◌, ◌%◌, List, [], ◌++◌, Some, Ok, Err, Option, Result, codes, decimal, unsigned_abs}
-use Rattle.refusal.specs.Refusals.{number_of, place_of, place_shown, reason_of}
+use Rattle.std.specs.Prelude.{ℕ, ℤ, pos, negsuc, ◌/◌, ◌%◌, List, [], ◌++◌, Some, None, Ok, Err, Option, Result, codes, decimal, unsigned_abs}
+use Rattle.refusal.specs.Refusals.{shown_of}
 use Rattle.refusal.specs.declared.Refusal.{Refusal}
 use Rattle.element.specs.declared.reading.Reading.{Reading}
 use Rattle.frame.specs.declared.Frame.{Frame}
@@ -42,14 +42,15 @@ frame_words (Laden ack number element) = codes "acknowledgement " ++ (decimal ac
 abbrev pub frame_text : Told (Frame Reading) → Option (List ℕ)
 frame_text t = Some (frame_words t.0)
 
--- a refusal: its number, its place where it has one, and its reason
-abbrev pub refusal_words : Refusal → List ℕ
-refusal_words r = codes "refusal " ++ (decimal (number_of r) ++ (place_shown (place_of r) ++ (codes ": " ++ reason_of r)))
+-- a text that is printed; nothing where none is promised
+abbrev pub text_of : Option (List ℕ) → List ℕ
+text_of None = []
+text_of (Some bs) = bs
 
 -- an answer, behind the name of who listened
 abbrev pub heard_words : List ℕ → Result (Frame Reading) Refusal → List ℕ
 heard_words who (Ok frame) = who ++ (codes " hears " ++ frame_words frame)
-heard_words who (Err refusal) = who ++ (codes " hears nothing: " ++ (refusal_words refusal ++ codes "."))
+heard_words who (Err refusal) = who ++ (codes " hears nothing: " ++ (text_of (shown_of refusal) ++ codes "."))
 
 abbrev pub heard_text : Heard → Option (List ℕ)
 heard_text h = Some (heard_words h.who.now h.answer)

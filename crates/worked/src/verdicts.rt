@@ -1,6 +1,6 @@
 // What came of a worked case, and how an area is held against the bytes that it ought to have.
-ghost use Rattle.std.specs.Prelude.{◌≡◌};
-ghost use Rattle.worked.specs.Verdicts.{is_only, verdict_of, verdict_text};
+ghost use Rattle.std.specs.Prelude.{◌≡◌, ◌-◌, true, ◌++◌, length};
+ghost use Rattle.worked.specs.Verdicts.{blanks, is_only, verdict_of, verdict_text};
 
 use octets::LONGEST;
 use std::fmt;
@@ -10,7 +10,8 @@ pub const BLANK: u8 = 0xAA;
 
 // Whether the area begins with these bytes and is blank behind them.
 pub fn holds_only(area: &[u8; LONGEST], bytes: &[u8]) -> bool
-    ensures { result ≡ is_only area.now bytes.now }
+    ensures test { result ≡ is_only area.now bytes.now }
+    ensures whole { result ≡ true → area.now ≡ bytes.now ++ blanks (32 - length bytes.now) }
 {
     area.starts_with(bytes) && area[bytes.len()..].iter().all(|byte| *byte == BLANK)
 }
