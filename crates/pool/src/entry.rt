@@ -3,7 +3,7 @@ ghost use Rattle.std.specs.Prelude.{◌≡◌, ℕ, ◌<◌, ◌≤◌, length, 
 ghost use Rattle.octets.specs.Areas.{front};
 ghost use Rattle.air.specs.Waiting.{fresh, overtaken};
 ghost use Rattle.pool.specs.declared.entry.Entry.{Entry};
-ghost use Rattle.pool.specs.Entries.{frame_in, frames_in};
+ghost use Rattle.pool.specs.Entries.{frame_in, frames_in, raised_entry};
 
 use arrayvec::ArrayVec;
 use octets::LONGEST;
@@ -27,6 +27,14 @@ impl Entry {
         }
     }
 
+    // The frame has been overtaken once more.
+    pub(crate) fn raise(&mut self)
+        requires { self.old.count < 255 }
+        ensures { self.new ≡ raised_entry self.old }
+    {
+        self.count += 1;
+    }
+
     // Copies the frame into the front of the area, and answers its length.
     pub(crate) fn copy_to(&self, area: &mut [u8; LONGEST]) -> usize
         ensures size { result ≡ length (frame_in self.now).frame }
@@ -45,6 +53,6 @@ pub(crate) fn raise_counts(entries: &mut [Entry], k: usize)
     ensures { frames_in entries.new ≡ overtaken k (frames_in entries.old) }
 {
     for entry in &mut entries[..k] {
-        entry.count += 1;
+        entry.raise();
     }
 }

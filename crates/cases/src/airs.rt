@@ -1,14 +1,11 @@
-// Flies case L on each air, and prints a line for all of them, its letter, a space, and `holds` or `off`, and then one for each.
-#![tactic(auto)]
-
+// The worked case of airs.
 use air::{Air, Gauge, Lent};
 use octets::LONGEST;
 use pool::Pool;
 use refusal::Refusal;
 use shelf::{SLOT, Shelf};
-use std::io;
 use tight::Tight;
-use worked::{BLANK, Verdict, holds_only};
+use worked::{BLANK, holds_only};
 
 // Whether frame k is taken, as this one byte and no other.
 fn takes<A: Air>(air: &mut A, k: usize, byte: u8) -> bool {
@@ -36,7 +33,7 @@ fn overtaken_once<A: Air>(air: &mut A) -> bool {
 }
 
 // Case L on each air: a pool, a shelf, and a tight air over each, where the bound 1 is the one given.
-fn overtaking() -> [(&'static str, bool); 4] {
+pub(crate) fn overtaking() -> [(&'static str, bool); 4] {
     let mut memory = [BLANK; 3 * SLOT];
     let mut shelf = Shelf::new(&mut memory, 1);
     let on_shelf = overtaken_once(&mut shelf);
@@ -52,13 +49,4 @@ fn overtaking() -> [(&'static str, bool); 4] {
         ),
         ("a tight air over a shelf", on_tight_shelf),
     ]
-}
-
-fn main(rt: HostRuntime) -> io::Result<()> {
-    let airs = overtaking();
-    println!(rt; "L {}", Verdict::from(airs.iter().all(|(_, held)| *held)))?;
-    for (name, held) in airs {
-        println!(rt; "L on {name}: {}", Verdict::from(held))?;
-    }
-    Ok(())
 }

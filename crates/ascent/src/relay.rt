@@ -1,25 +1,13 @@
-// Readings on their way through an air whose relay loses a frame, lets a young one pass an old one and repeats one, told in plain
-// text. What is told is computed by the library's calls.
-#![tactic(auto)]
-
+// The reading's frame on its way through an air, whose relay loses a copy, lets a young frame pass an old one and repeats one.
+use crate::{NUMBER, carrying, unless_same};
 use air::{Air, Gauge, most_overtaken};
-use element::Kind;
 use element::reading::Reading;
 use frame::{Frame, LONGEST, hear, write};
 use pool::Pool;
 use refusal::Refusal;
 use std::io;
-use telling::{HUT_BOUND, Heard, READING};
+use telling::{HUT_BOUND, Heard};
 use tight::Tight;
-
-// The frame with which the mast sends a reading, under a number of its cycle.
-fn carrying(number: u16, element: Reading) -> Frame<Reading> {
-    Frame::Laden {
-        ack: 3,
-        number,
-        element,
-    }
-}
 
 // The mast puts a frame into an air.
 fn send<A: Air>(air: &mut A, frame: &Frame<Reading>) -> Result<(), Refusal> {
@@ -88,9 +76,9 @@ fn tell_repeating<A: Air>(
 // Two readings, a copy and an acknowledgement on their way through an air whose relay loses one frame, lets a young one pass, and
 // repeats one.
 fn tell_relay<A: Air>(rt: &impl Print, air: &mut A, reading: Reading) -> anyhow::Result<()> {
-    let old = carrying(5, reading);
+    let old = carrying(NUMBER, reading);
     let young = carrying(
-        6,
+        NUMBER + 1,
         Reading {
             time: 4_222,
             height: 15_291,
@@ -102,21 +90,22 @@ fn tell_relay<A: Air>(rt: &impl Print, air: &mut A, reading: Reading) -> anyhow:
     send(air, &young)?;
     send(air, &Frame::Bare { ack: 4 })?;
     println!(rt;
-        "The mast sends reading 5, the same once more, reading 6, and an acknowledgement alone."
+        "The mast sends reading {NUMBER}, the same once more, reading {}, and an acknowledgement alone.",
+        NUMBER + 1
     )?;
     tell_waiting(rt, air)?;
     air.lose(1)?;
-    println!(rt; "The relay loses the second copy of reading 5.")?;
+    println!(rt; "The relay loses the second copy of reading {NUMBER}.")?;
     tell_waiting(rt, air)?;
     tell_passing(rt, air)?;
     let same = tell_repeating(rt, air, old)?;
-    println!(rt; "Both are {}what was sent.", if same { "" } else { "NOT " })?;
+    println!(rt; "Both are {}what was sent.", unless_same(same))?;
     tell_waiting(rt, air)?;
     Ok(())
 }
 
-fn tell(rt: &impl Print) -> anyhow::Result<()> {
-    let reading = READING.make()?;
+// An air, held to a bound of 1, from the first frame that is put to what is left when it is released.
+pub(crate) fn tell_air(rt: &impl Print, reading: Reading) -> anyhow::Result<()> {
     let mut air = Tight::new(Pool::new(3), 1);
     println!(rt;
         "Between mast and hut lies an air: room for {} frames, overtaking bound {}.",
@@ -131,8 +120,4 @@ fn tell(rt: &impl Print) -> anyhow::Result<()> {
         pool.bound()
     )?;
     Ok(())
-}
-
-fn main(rt: HostRuntime) -> anyhow::Result<()> {
-    tell(&rt)
 }
