@@ -9,7 +9,7 @@ pub invariant_of-self : goal.invariant_of-self
 invariant_of-self c =
     let s = c.args.self.now in
     let ws = (shelf_state s).waiting in
-    kept s c.remove.new.self (without c.args.k ws) c.remove.ensures.frames (each_without s.bound c.args.k ws s.each)
+    kept s c.remove.new.self (without _ ws) c.remove.ensures.frames (each_without s.bound _ ws s.each)
 
 pub returns : goal.returns
 returns c =
