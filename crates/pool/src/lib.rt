@@ -25,3 +25,6 @@ pub struct Pool {
     ghost small: { bound ≤ 255 },
     ghost each: { EachFine bound (frames_in waiting.items) },
 }
+
+// What a pool takes of memory, in bytes: 48 for each entry, and 16 besides.
+const _: () = prove!(size_of::<Pool>() == 48 * CAPACITY + 16);

@@ -28,3 +28,6 @@ pub struct Shelf<'a> {
     ghost small: { bound ≤ 255 },
     ghost each: { EachFine bound (frames_in slots.used (concat slots.memory.now)) },
 }
+
+// What a shelf takes of memory besides what is lent, in bytes.
+const _: () = prove!(size_of::<Shelf>() == 32);
