@@ -11,9 +11,10 @@ use telling::{Decimal, HUT_BOUND, Heard, MAST_BOUND, READING, Told};
 mod damage;
 mod relay;
 
-// The acknowledgement in the mast's frames, and the number of the reading.
+// The acknowledgement that the mast's frames carry.
 const ACK: u16 = 3;
 
+// The number under which the reading is sent.
 const NUMBER: u16 = 5;
 
 // The frame with which the mast sends a reading, under a number of its cycle.
@@ -25,8 +26,8 @@ fn carrying(number: u16, element: Reading) -> Frame<Reading> {
     }
 }
 
-// What a sentence says between "is" and "what was sent".
-fn unless_same(same: bool) -> &'static str {
+// The word that a sentence needs where something is not what was sent.
+fn not_unless(same: bool) -> &'static str {
     if same { "" } else { "NOT " }
 }
 
@@ -64,7 +65,7 @@ fn tell_making(rt: &impl Print) -> anyhow::Result<Reading> {
 fn tell_arrivals(rt: &impl Print, frame: Frame<Reading>, bytes: &[u8]) -> io::Result<()> {
     println!(rt; "{}", Heard::by("The hut", HUT_BOUND, bytes))?;
     let same = hear::<Reading>(HUT_BOUND, bytes) == Ok(frame);
-    println!(rt; "That is {}what was sent.", unless_same(same))?;
+    println!(rt; "That is {}what was sent.", not_unless(same))?;
     let own = Heard::by(
         "The mast, to which its own frame comes back,",
         MAST_BOUND,

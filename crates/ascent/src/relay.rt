@@ -1,5 +1,5 @@
 // The reading's frame on its way through an air, whose relay loses a copy, lets a young frame pass an old one and repeats one.
-use crate::{NUMBER, carrying, unless_same};
+use crate::{ACK, NUMBER, carrying, not_unless};
 use air::{Air, Gauge, most_overtaken};
 use element::reading::Reading;
 use frame::{Frame, LONGEST, hear, write};
@@ -88,7 +88,7 @@ fn tell_relay<A: Air>(rt: &impl Print, air: &mut A, reading: Reading) -> anyhow:
     send(air, &old)?;
     send(air, &old)?;
     send(air, &young)?;
-    send(air, &Frame::Bare { ack: 4 })?;
+    send(air, &Frame::Bare { ack: ACK + 1 })?;
     println!(rt;
         "The mast sends reading {NUMBER}, the same once more, reading {}, and an acknowledgement alone.",
         NUMBER + 1
@@ -99,7 +99,7 @@ fn tell_relay<A: Air>(rt: &impl Print, air: &mut A, reading: Reading) -> anyhow:
     tell_waiting(rt, air)?;
     tell_passing(rt, air)?;
     let same = tell_repeating(rt, air, old)?;
-    println!(rt; "Both are {}what was sent.", unless_same(same))?;
+    println!(rt; "Both are {}what was sent.", not_unless(same))?;
     tell_waiting(rt, air)?;
     Ok(())
 }
