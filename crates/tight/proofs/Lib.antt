@@ -1,2 +1,2 @@
 pub mod TightLaws
-pub mod Uncapped
+pub mod Kept

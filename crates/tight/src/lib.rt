@@ -9,6 +9,7 @@ ghost use Rattle.tight.specs.Tights.{tight_state};
 use air::{Air, Gauge, clear};
 
 mod calls;
+mod gauge;
 
 // The air below keeps the frames and their counts; the bound is the smaller of its own and the one given.
 #[derive(Drop)]
@@ -23,16 +24,15 @@ impl<A: Air> Tight<A> {
         ensures state { tight_state A.Gauge.state result ≡ empty_air (A.Gauge.state below).capacity (min given (A.Gauge.state below).bound) }
         ensures below { A.Gauge.state result.below ≡ empty_air (A.Gauge.state below).capacity (A.Gauge.state below).bound }
         ensures given { result.given ≡ given }
+        ensures list { SameList A.Gauge.state result }
     {
         clear(&mut below);
         Tight { below, given }
     }
 
-    // The air below, with the frames that wait in it, held to its own bound again. Its list is that of the tight air, whatever
-    // calls on the tight air led to it.
+    // The air below, with the frames that wait in it, held to its own bound again.
     pub fn release(self) -> A
-        ensures below { result ≡ self.below }
-        ensures same { SameList self.given (A.Gauge.state result) }
+        ensures { result ≡ self.below }
     {
         self.below
     }
