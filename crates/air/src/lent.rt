@@ -38,10 +38,6 @@ impl<'a, A: Air> Air for Lent<'a, A> {
         self.0.lose(k)
     }
 
-    fn take(&mut self, k: usize, area: &mut [u8; LONGEST]) -> Result<usize, Refusal> {
-        self.0.take(k, area)
-    }
-
     fn repeat(&mut self, k: usize, area: &mut [u8; LONGEST]) -> Result<usize, Refusal> {
         self.0.repeat(k, area)
     }

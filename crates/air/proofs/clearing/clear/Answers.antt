@@ -1,19 +1,23 @@
-use Rattle.std.proofs.Common.{◌∙◌, ap}
-use Rattle.air.specs.Waiting.{empty_air, with_waiting}
-use Rattle.air.proofs.StepLaws.{lost_oldest, none_to_lose}
+use Rattle.std.proofs.Common.{◌≡◌, length, ap, ◌∙◌, ⊎_elim, arith, rules}
+use Rattle.std.proofs.lemmas.Bool.{cases_lt}
+use Rattle.std.proofs.lemmas.List.{nil_from_length}
+use Rattle.air.specs.Waiting.{with_waiting}
+use Rattle.air.proofs.StepLaws.{lost_one}
 use Rattle.air.proofs.clearing.clear.Goals as goal
 
-pub loop-smaller : goal.loop-smaller
-loop-smaller g c = (lost_oldest (g.A.Gauge.state c.loop.air) (g.A.Gauge.state c.lose.new.self) c.lose.result c.loop-test.ensures.value c.lose.ensures).1
-
-pub loop-preserved : goal.loop-preserved
-loop-preserved g c =
+pub loop-youngest-smaller : goal.loop-youngest-smaller
+loop-youngest-smaller g c =
     let s = g.A.Gauge.state in
-    (lost_oldest (s c.loop.air) (s c.lose.new.self) c.lose.result c.loop-test.ensures.value c.lose.ensures).0
-    ∙ ap (λ a. with_waiting a (s c.lose.new.self).waiting) c.loop.invariant
+    (lost_one c.in-Some.youngest (s c.loop-youngest.air) (s c.lose.new.self) c.lose.result (search rules) c.lose.ensures).1
+
+pub loop-youngest-preserved : goal.loop-youngest-preserved
+loop-youngest-preserved g c =
+    let s = g.A.Gauge.state in
+    (lost_one c.in-Some.youngest (s c.loop-youngest.air) (s c.lose.new.self) c.lose.result (search rules) c.lose.ensures).0
+    ∙ ap (λ a. with_waiting a (s c.lose.new.self).waiting) c.loop-youngest.invariant
 
 pub returns : goal.returns
 returns g c =
     let s = g.A.Gauge.state in
-    none_to_lose (s c.loop.air) (s c.lose.new.self) c.lose.result c.loop-test.ensures.value c.lose.ensures
-    ∙ ap (λ a. empty_air a.capacity a.bound) c.loop.invariant
+    let few : length (s c.loop-youngest.air).waiting ≡ 0 = ⊎_elim (λ l. omega (arith, l, c.waiting.ensures)) (λ l. absurd (c.in_default.ensures l)) (cases_lt c.waiting.result 1) in
+    c.loop-youngest.invariant ∙ ap (with_waiting (s c.args.air.now)) (nil_from_length (s c.loop-youngest.air).waiting few)
