@@ -138,6 +138,6 @@ pub record Lawful (capacity bound : ℕ) (p : Past) : Type 0 where
 abbrev pub AlwaysLawful : Type 0
 AlwaysLawful = (capacity bound : ℕ) (h : List Call) → Lawful capacity bound (past capacity bound h)
 
--- where a history led to this air, which was then made empty and changed by calls alone: no waiting frame has been overtaken more often than this
+-- if this air is what some history of calls makes of an empty one, no waiting frame has been overtaken more often than this
 abbrev pub AtMost : ℕ → AirState Bytes → Type 0
 AtMost most a = (h : List Call) → (past a.capacity a.bound h).air ≡ a → AllByRecursion (λ w. w.count ≤ most) a.waiting

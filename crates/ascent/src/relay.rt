@@ -13,22 +13,38 @@ use tight::Tight;
 fn send<A: Air>(air: &mut A, frame: &Frame<Reading>) -> Result<(), Refusal> {
     let mut area = [0; LONGEST];
     let n = write(HUT_BOUND, frame, &mut area)?;
-    air.put(&area[0..n])
+    air.put(&area[..n])
 }
 
-// The hut hears what an air answered, if it answered.
-fn tell_answer(
-    rt: &impl Print,
-    answer: Result<usize, Refusal>,
-    area: &[u8; LONGEST],
-) -> io::Result<()> {
+// The bytes of frame k, which the air hands over.
+fn taken<'a, A: Air>(
+    air: &mut A,
+    k: usize,
+    area: &'a mut [u8; LONGEST],
+) -> Result<&'a [u8], Refusal> {
+    let n = air.take(k, area)?;
+    Ok(&area[..n])
+}
+
+// The bytes of frame k, of which the air hands over a copy.
+fn repeated<'a, A: Air>(
+    air: &mut A,
+    k: usize,
+    area: &'a mut [u8; LONGEST],
+) -> Result<&'a [u8], Refusal> {
+    let n = air.repeat(k, area)?;
+    Ok(&area[..n])
+}
+
+// What the hut hears.
+fn tell_hearing(rt: &impl Print, bytes: &[u8]) -> io::Result<()> {
+    println!(rt; "{}", Heard::by("The hut", HUT_BOUND, bytes))
+}
+
+// What the hut hears of what an air handed over, if it did.
+fn tell_answer(rt: &impl Print, answer: Result<&[u8], Refusal>) -> io::Result<()> {
     match answer {
-        Ok(n) => {
-            println!(rt;
-                "{}",
-                Heard::by("The hut", HUT_BOUND, &area[..n.min(LONGEST)])
-            )
-        }
+        Ok(bytes) => tell_hearing(rt, bytes),
         Err(refusal) => println!(rt; "    It is held back: {refusal}."),
     }
 }
@@ -47,12 +63,10 @@ fn tell_waiting<A: Air>(rt: &impl Print, air: &A) -> io::Result<()> {
 fn tell_passing<A: Air>(rt: &impl Print, air: &mut A) -> io::Result<()> {
     let mut area = [0; LONGEST];
     println!(rt; "It lets the frame behind the oldest pass:")?;
-    let answer = air.take(1, &mut area);
-    tell_answer(rt, answer, &area)?;
+    tell_answer(rt, taken(air, 1, &mut area))?;
     tell_waiting(rt, air)?;
     println!(rt; "It tries that once more:")?;
-    let answer = air.take(1, &mut area);
-    tell_answer(rt, answer, &area)
+    tell_answer(rt, taken(air, 1, &mut area))
 }
 
 // A relay that hands over the oldest frame twice; whether both are what was sent.
@@ -64,13 +78,11 @@ fn tell_repeating<A: Air>(
     let mut first = [0; LONGEST];
     let mut second = [0; LONGEST];
     println!(rt; "It repeats the oldest, and then hands it over:")?;
-    let repeated = air.repeat(0, &mut first);
-    tell_answer(rt, repeated, &first)?;
-    let taken = air.take(0, &mut second);
-    tell_answer(rt, taken, &second)?;
-    let n = taken?.min(LONGEST);
-    let same = first == second && hear::<Reading>(HUT_BOUND, &second[0..n]) == Ok(sent);
-    Ok(same)
+    let copy = repeated(air, 0, &mut first)?;
+    tell_hearing(rt, copy)?;
+    let original = taken(air, 0, &mut second)?;
+    tell_hearing(rt, original)?;
+    Ok(copy == original && hear::<Reading>(HUT_BOUND, original) == Ok(sent))
 }
 
 // Two readings, a copy and an acknowledgement on their way through an air whose relay loses one frame, lets a young one pass, and

@@ -10,8 +10,8 @@ pub use verdicts::{BLANK, Verdict, holds_only};
 
 // The letters of the cases that are shown of the definitions, by the theorem in this contract.
 pub fn shown() -> &'static str
-    ensures letters { result.now ≡ codes "IJK" }
+    ensures letters { result.now ≡ codes "IJKL" }
     ensures worked { Worked }
 {
-    "IJK"
+    "IJKL"
 }

@@ -16,6 +16,11 @@ returns-clause-worked c =
       case_k_number = refl;
       case_k_heard = refl;
       case_k_place = (refl, refl);
+      case_l_put = refl;
+      case_l_taken = λ area. refl;
+      case_l_refused = λ area. refl;
+      case_l_number = refl;
+      case_l_oldest = λ area. refl;
       rfc_sum = refl;
       rfc_check = refl;
     }
