@@ -1,4 +1,4 @@
-// What every air tests before a call takes effect, in the order in which the causes are told.
+//! What every air tests before a call takes effect, in the order in which the causes are told.
 ghost use Rattle.std.specs.Prelude.{◌≡◌, ◌<◌, ◌≤◌, length, ◌==◌};
 ghost use Rattle.refusal.specs.Refusals.{unless};
 ghost use Rattle.std.specs.List.{slice_get};
@@ -9,7 +9,7 @@ use crate::Gauge;
 use octets::LONGEST;
 use refusal::Refusal;
 
-// Refuses to put what has no bytes or too many, and then to put anything into a full air.
+/// Refuses to put what has no bytes or too many, and then to put anything into a full air.
 pub fn check_put<A: Gauge>(air: &A, bytes: &[u8]) -> Result<(), Refusal>
     ensures { result ≡ unless tt (put_refusal bytes.now (A.Gauge.state air.now)) }
 {
@@ -22,7 +22,7 @@ pub fn check_put<A: Gauge>(air: &A, bytes: &[u8]) -> Result<(), Refusal>
     Ok(())
 }
 
-// Refuses a place where no frame waits.
+/// Refuses a place where no frame waits.
 pub fn check_place<A: Gauge>(air: &A, k: usize) -> Result<(), Refusal>
     ensures { result ≡ unless tt (place_refusal k (A.Gauge.state air.now)) }
 {
@@ -32,7 +32,7 @@ pub fn check_place<A: Gauge>(air: &A, k: usize) -> Result<(), Refusal>
     Ok(())
 }
 
-// Whether frame i has been overtaken as often as the bound allows.
+/// Whether frame i has been overtaken as often as the bound allows.
 fn is_at_bound<A: Gauge>(air: &A, i: usize) -> bool
     requires { i < length (A.Gauge.state air.now).waiting }
     ensures { result ≡ (count_of (slice_get (A.Gauge.state air.now).waiting i) == (A.Gauge.state air.now).bound) }
@@ -40,7 +40,7 @@ fn is_at_bound<A: Gauge>(air: &A, i: usize) -> bool
     air.count(i) == Ok(air.bound())
 }
 
-// Whether a frame before place k has been overtaken as often as the bound allows.
+/// Whether a frame before place k has been overtaken as often as the bound allows.
 fn is_barred<A: Gauge>(air: &A, k: usize) -> bool
     requires { k ≤ length (A.Gauge.state air.now).waiting }
     ensures { result ≡ barred (A.Gauge.state air.now).bound k (A.Gauge.state air.now).waiting }
@@ -48,7 +48,7 @@ fn is_barred<A: Gauge>(air: &A, k: usize) -> bool
     (0..k).any(|i| is_at_bound(air, i))
 }
 
-// Refuses to answer a frame that is not there, and then one that may not overtake those before it.
+/// Refuses to answer a frame that is not there, and then one that may not overtake those before it.
 pub fn check_answer<A: Gauge>(air: &A, k: usize) -> Result<(), Refusal>
     ensures { result ≡ unless tt (answer_refusal k (A.Gauge.state air.now)) }
 {

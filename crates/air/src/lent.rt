@@ -1,9 +1,9 @@
-// An air that is lent: it means what the air means that it borrows, so that whatever owns an air can be given one for a while.
+//! An air that is lent: it means what the air means that it borrows, so that whatever owns an air can be given one for a while.
 use crate::{Air, Gauge};
 use octets::LONGEST;
 use refusal::Refusal;
 
-// The air that is lent.
+/// The air that is lent.
 #[derive(Drop)]
 pub struct Lent<'a, A>(pub &'a mut A);
 

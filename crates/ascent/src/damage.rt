@@ -1,4 +1,4 @@
-// A frame that is damaged on the way: each of its bits is turned over, and the hut tells it from what was sent.
+//! A frame that is damaged on the way: each of its bits is turned over, and the hut tells it from what was sent.
 use element::reading::Reading;
 use frame::{Frame, hear};
 use refusal::Refusal;
@@ -6,7 +6,7 @@ use std::alloc::{AllocError, Global};
 use std::collections::BTreeMap;
 use telling::HUT_BOUND;
 
-// How often damaged bytes were heard all the same, and how often each refusal answered, by its number.
+/// How often damaged bytes were heard all the same, and how often each refusal answered, by its number.
 #[derive(Drop)]
 struct Tally {
     heard: u32,
@@ -14,7 +14,7 @@ struct Tally {
 }
 
 impl Tally {
-    // Counts one more answer.
+    /// Counts one more answer.
     fn count(&mut self, answer: Result<Frame<Reading>, Refusal>) -> Result<(), AllocError> {
         match answer {
             Ok(_) => self.heard = self.heard.saturating_add(1),
@@ -27,7 +27,7 @@ impl Tally {
     }
 }
 
-// A frame with one of its bits turned over; the bits of a byte are counted from its lowest.
+/// A frame with one of its bits turned over; the bits of a byte are counted from its lowest.
 fn with_bit_turned(alloc: Global, frame: &[u8], bit: usize) -> Result<Vec<u8>, AllocError> {
     let mut damaged = frame.to_vec(alloc)?;
     if let Some(byte) = damaged.get_mut(bit / 8) {
@@ -36,7 +36,7 @@ fn with_bit_turned(alloc: Global, frame: &[u8], bit: usize) -> Result<Vec<u8>, A
     Ok(damaged)
 }
 
-// Hears a frame with each of its bits turned over, one at a time.
+/// Hears a frame with each of its bits turned over, one at a time.
 fn turn_each_bit(alloc: Global, frame: &[u8]) -> Result<Tally, AllocError> {
     let mut tally = Tally {
         heard: 0,
@@ -49,7 +49,7 @@ fn turn_each_bit(alloc: Global, frame: &[u8]) -> Result<Tally, AllocError> {
     Ok(tally)
 }
 
-// Tells how often each refusal answered, and how often the damaged frame was heard.
+/// Tells how often each refusal answered, and how often the damaged frame was heard.
 pub(crate) fn tell_damage(rt: &(impl Print + AllocGlobal), frame: &[u8]) -> anyhow::Result<()> {
     println!(rt; "Each bit is turned over on the way, one at a time:")?;
     let tally = turn_each_bit(rt.alloc(), frame)?;

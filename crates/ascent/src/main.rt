@@ -1,5 +1,5 @@
-// One reading on its way from the mast to the hut, first by itself and then with others through an air, told in plain text. What is
-// told is computed by the library's calls.
+//! One reading on its way from the mast to the hut, first by itself and then with others through an air, told in plain text. What is
+//! told is computed by the library's calls.
 #![tactic(auto)]
 
 use element::Kind;
@@ -11,13 +11,13 @@ use telling::{Decimal, HUT_BOUND, Heard, MAST_BOUND, READING, Told};
 mod damage;
 mod relay;
 
-// The acknowledgement that the mast's frames carry.
+/// The acknowledgement that the mast's frames carry.
 const ACK: u16 = 3;
 
-// The number under which the reading is sent.
+/// The number under which the reading is sent.
 const NUMBER: u16 = 5;
 
-// The frame with which the mast sends a reading, under a number of its cycle.
+/// The frame with which the mast sends a reading, under a number of its cycle.
 fn carrying(number: u16, element: Reading) -> Frame<Reading> {
     Frame::Laden {
         ack: ACK,
@@ -26,12 +26,12 @@ fn carrying(number: u16, element: Reading) -> Frame<Reading> {
     }
 }
 
-// The word that a sentence needs where something is not what was sent.
+/// The word that a sentence needs where something is not what was sent.
 fn not_unless(same: bool) -> &'static str {
     if same { "" } else { "NOT " }
 }
 
-// Prints bytes in rows of sixteen.
+/// Prints bytes in rows of sixteen.
 fn show_bytes(rt: &impl Print, bytes: &[u8]) -> io::Result<()> {
     for row in bytes.chunks(16) {
         print!(rt; "   ")?;
@@ -43,7 +43,7 @@ fn show_bytes(rt: &impl Print, bytes: &[u8]) -> io::Result<()> {
     Ok(())
 }
 
-// Makes a reading, and tries to make the same with a little more humidity than there can be.
+/// Makes a reading, and tries to make the same with a little more humidity than there can be.
 fn tell_making(rt: &impl Print) -> anyhow::Result<Reading> {
     let reading = READING.make()?;
     println!(rt; "The mast makes a reading: {}.", Told(reading))?;
@@ -61,7 +61,7 @@ fn tell_making(rt: &impl Print) -> anyhow::Result<Reading> {
     Ok(reading)
 }
 
-// What becomes of a frame that arrives as it was sent, that comes back to its sender, and that is cut short.
+/// What becomes of a frame that arrives as it was sent, that comes back to its sender, and that is cut short.
 fn tell_arrivals(rt: &impl Print, frame: Frame<Reading>, bytes: &[u8]) -> io::Result<()> {
     println!(rt; "{}", Heard::by("The hut", HUT_BOUND, bytes))?;
     let same = hear::<Reading>(HUT_BOUND, bytes) == Ok(frame);

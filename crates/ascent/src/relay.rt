@@ -1,4 +1,4 @@
-// The reading's frame on its way through an air, whose relay loses a copy, lets a young frame pass an old one and repeats one.
+//! The reading's frame on its way through an air, whose relay loses a copy, lets a young frame pass an old one and repeats one.
 use crate::{ACK, NUMBER, carrying, not_unless};
 use air::{Air, Gauge, most_overtaken};
 use element::reading::Reading;
@@ -9,14 +9,14 @@ use std::io;
 use telling::{HUT_BOUND, Heard};
 use tight::Tight;
 
-// The mast puts a frame into an air.
+/// The mast puts a frame into an air.
 fn send<A: Air>(air: &mut A, frame: &Frame<Reading>) -> Result<(), Refusal> {
     let mut area = [0; LONGEST];
     let n = write(HUT_BOUND, frame, &mut area)?;
     air.put(&area[..n])
 }
 
-// The bytes of frame k, which the air hands over.
+/// The bytes of frame k, which the air hands over.
 fn taken<'a, A: Air>(
     air: &mut A,
     k: usize,
@@ -26,7 +26,7 @@ fn taken<'a, A: Air>(
     Ok(&area[..n])
 }
 
-// The bytes of frame k, of which the air hands over a copy.
+/// The bytes of frame k, of which the air hands over a copy.
 fn repeated<'a, A: Air>(
     air: &mut A,
     k: usize,
@@ -36,12 +36,12 @@ fn repeated<'a, A: Air>(
     Ok(&area[..n])
 }
 
-// What the hut hears.
+/// What the hut hears.
 fn tell_hearing(rt: &impl Print, bytes: &[u8]) -> io::Result<()> {
     println!(rt; "{}", Heard::by("The hut", HUT_BOUND, bytes))
 }
 
-// What the hut hears of what an air handed over, if it did.
+/// What the hut hears of what an air handed over, if it did.
 fn tell_answer(rt: &impl Print, answer: Result<&[u8], Refusal>) -> io::Result<()> {
     match answer {
         Ok(bytes) => tell_hearing(rt, bytes),
@@ -49,7 +49,7 @@ fn tell_answer(rt: &impl Print, answer: Result<&[u8], Refusal>) -> io::Result<()
     }
 }
 
-// What waits in an air.
+/// What waits in an air.
 fn tell_waiting<A: Air>(rt: &impl Print, air: &A) -> io::Result<()> {
     println!(rt;
         "    Waiting: {}. The oldest was overtaken {} of {} times.",
@@ -59,7 +59,7 @@ fn tell_waiting<A: Air>(rt: &impl Print, air: &A) -> io::Result<()> {
     )
 }
 
-// A relay that lets the frame at place 1 pass the one before it, and tries to do so again.
+/// A relay that lets the frame at place 1 pass the one before it, and tries to do so again.
 fn tell_passing<A: Air>(rt: &impl Print, air: &mut A) -> io::Result<()> {
     let mut area = [0; LONGEST];
     println!(rt; "It lets the frame behind the oldest pass:")?;
@@ -69,7 +69,7 @@ fn tell_passing<A: Air>(rt: &impl Print, air: &mut A) -> io::Result<()> {
     tell_answer(rt, taken(air, 1, &mut area))
 }
 
-// A relay that hands over the oldest frame twice; whether both are what was sent.
+/// A relay that hands over the oldest frame twice; whether both are what was sent.
 fn tell_repeating<A: Air>(
     rt: &impl Print,
     air: &mut A,
@@ -85,8 +85,8 @@ fn tell_repeating<A: Air>(
     Ok(copy == original && hear::<Reading>(HUT_BOUND, original) == Ok(sent))
 }
 
-// Two readings, a copy and an acknowledgement on their way through an air whose relay loses one frame, lets a young one pass, and
-// repeats one.
+/// Two readings, a copy and an acknowledgement on their way through an air whose relay loses one frame, lets a young one pass, and
+/// repeats one.
 fn tell_relay<A: Air>(rt: &impl Print, air: &mut A, reading: Reading) -> anyhow::Result<()> {
     let old = carrying(NUMBER, reading);
     let young = carrying(
@@ -116,7 +116,7 @@ fn tell_relay<A: Air>(rt: &impl Print, air: &mut A, reading: Reading) -> anyhow:
     Ok(())
 }
 
-// An air, held to a bound of 1, from the first frame that is put to what is left when it is released.
+/// An air, held to a bound of 1, from the first frame that is put to what is left when it is released.
 pub(crate) fn tell_air(rt: &impl Print, reading: Reading) -> anyhow::Result<()> {
     let mut air = Tight::new(Pool::new(3), 1);
     println!(rt;

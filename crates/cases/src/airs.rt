@@ -1,4 +1,4 @@
-// The worked case of airs.
+//! The worked case of airs.
 use air::{Air, Gauge, Lent};
 use octets::LONGEST;
 use pool::Pool;
@@ -7,13 +7,13 @@ use shelf::{SLOT, Shelf};
 use tight::Tight;
 use worked::{BLANK, holds_only};
 
-// Whether frame k is taken, as this one byte and no other.
+/// Whether frame k is taken, as this one byte and no other.
 fn takes<A: Air>(air: &mut A, k: usize, byte: u8) -> bool {
     let mut area = [BLANK; LONGEST];
     air.take(k, &mut area) == Ok(1) && holds_only(&area, &[byte])
 }
 
-// Whether frame k is not taken, by refusal 8, which leaves the area, what waits and the oldest count as they were.
+/// Whether frame k is not taken, by refusal 8, which leaves the area, what waits and the oldest count as they were.
 fn is_held_up<A: Air>(air: &mut A, k: usize) -> bool {
     let mut area = [BLANK; LONGEST];
     let waiting = air.waiting();
@@ -22,7 +22,7 @@ fn is_held_up<A: Air>(air: &mut A, k: usize) -> bool {
     refused && holds_only(&area, &[]) && air.waiting() == waiting && air.count(0).ok() == oldest
 }
 
-// L, on an empty air with bound 1: of three waiting frames, 1 is taken; 1 again is refused by 8; 0 is taken.
+/// L, on an empty air with bound 1: of three waiting frames, 1 is taken; 1 again is refused by 8; 0 is taken.
 fn overtaken_once<A: Air>(air: &mut A) -> bool {
     let put = air.put(b"a").is_ok() && air.put(b"b").is_ok() && air.put(b"c").is_ok();
     put && takes(air, 1, b'b')
@@ -32,7 +32,7 @@ fn overtaken_once<A: Air>(air: &mut A) -> bool {
         && air.count(0) == Ok(0)
 }
 
-// Case L on each air: a pool, a shelf, and a tight air over each, where the bound 1 is the one given.
+/// Case L on each air: a pool, a shelf, and a tight air over each, where the bound 1 is the one given.
 pub(crate) fn overtaking() -> [(&'static str, bool); 4] {
     let mut memory = [BLANK; 3 * SLOT];
     let mut shelf = Shelf::new(&mut memory, 1);

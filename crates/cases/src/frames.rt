@@ -1,4 +1,4 @@
-// The worked cases of frames and elements.
+//! The worked cases of frames and elements.
 use element::Kind;
 use element::order::Order;
 use element::reading::Reading;
@@ -7,7 +7,7 @@ use octets::check_of;
 use refusal::Refusal;
 use worked::{BLANK, holds_only};
 
-// The frames of one side, with cycles of 8.
+/// The frames of one side, with cycles of 8.
 fn frames_of(sender: Side) -> Format {
     Format {
         sender,
@@ -15,7 +15,7 @@ fn frames_of(sender: Side) -> Format {
     }
 }
 
-// Whether a frame of the hut is written as just these bytes, and these bytes are heard as that frame.
+/// Whether a frame of the hut is written as just these bytes, and these bytes are heard as that frame.
 fn written_as(frame: Frame<Order>, bytes: &[u8]) -> bool {
     let format = frames_of(Side::Hut);
     let mut area = [BLANK; LONGEST];
@@ -24,13 +24,13 @@ fn written_as(frame: Frame<Order>, bytes: &[u8]) -> bool {
     written == Ok(bytes.len()) && holds_only(&area, bytes) && heard == Ok(frame)
 }
 
-// I: the hut's bare frame with acknowledgement 1.
+/// I: the hut's bare frame with acknowledgement 1.
 pub(crate) fn bare_frame() -> bool {
     let frame = Frame::Bare { ack: 1 };
     written_as(frame, b"MHL\x00\x01\x01\x02\x00\x01\x00\x00\x00\x62\xB6")
 }
 
-// J: the hut's frame with note 7, acknowledgement 1 and number 0.
+/// J: the hut's frame with note 7, acknowledgement 1 and number 0.
 pub(crate) fn note_frame() -> bool {
     let element = Order::Note { number: 7 };
     let frame = Frame::Laden {
@@ -44,7 +44,7 @@ pub(crate) fn note_frame() -> bool {
     )
 }
 
-// A reading of so many tenths of a percent of humidity, and 0 of all else.
+/// A reading of so many tenths of a percent of humidity, and 0 of all else.
 fn humid(humidity: u16) -> Reading {
     Reading {
         time: 0,
@@ -55,7 +55,7 @@ fn humid(humidity: u16) -> Reading {
     }
 }
 
-// A frame of the mast whose reading tells a humidity of 1,001, sealed with its right check.
+/// A frame of the mast whose reading tells a humidity of 1,001, sealed with its right check.
 fn too_humid() -> Result<[u8; 28], Refusal> {
     let mut area = [BLANK; LONGEST];
     let frame = Frame::Laden {
@@ -71,7 +71,7 @@ fn too_humid() -> Result<[u8; 28], Refusal> {
     Ok(bytes)
 }
 
-// K: humidity 1,000 is made; 1,001 is refused by 17, and in a frame by 15 at place 22.
+/// K: humidity 1,000 is made; 1,001 is refused by 17, and in a frame by 15 at place 22.
 pub(crate) fn humidity() -> bool {
     let Ok(bytes) = too_humid() else {
         return false;
@@ -82,7 +82,7 @@ pub(crate) fn humidity() -> bool {
         && heard == Err(Refusal::NoElement { place: 22 })
 }
 
-// The worked example of RFC 1071: the words sum to ddf2, and the check is its complement.
+/// The worked example of RFC 1071: the words sum to ddf2, and the check is its complement.
 pub(crate) fn rfc_example() -> bool {
     check_of(&[0x00, 0x01, 0xf2, 0x03, 0xf4, 0xf5, 0xf6, 0xf7]) == !0xddf2
 }

@@ -1,5 +1,5 @@
-// Flies the worked cases through the library's calls, and prints a line for each: its letter, a space, and `holds` or `off`. Behind them
-// stands a line for each air on which case L is flown.
+//! Flies the worked cases through the library's calls, and prints a line for each: its letter, a space, and `holds` or `off`. Behind them
+//! stands a line for each air on which case L is flown.
 #![tactic(auto)]
 
 use std::io;

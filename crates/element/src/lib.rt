@@ -1,4 +1,4 @@
-// Kinds of element: what a link carries, which values are allowed, and their bytes.
+//! Kinds of element: what a link carries, which values are allowed, and their bytes.
 #![tactic(auto)]
 
 ghost use Rattle.std.specs.Prelude.{◌≡◌, ℕ, ◌<◌, ◌≤◌, List, length, take, Some, None, Ok, Err};
@@ -11,47 +11,47 @@ use refusal::Refusal;
 pub mod order;
 pub mod reading;
 
-// No kind is wider than this, in bytes.
+/// No kind is wider than this, in bytes.
 pub const WIDEST: usize = 18;
 
-// A kind of element. A value of the type is an element where none of its fields is out of range; its fields are public, so
-// that a caller may hand over any value, and `make` and `write` refuse one that is no element.
-//
-// Who adds a kind gives the width, the coding, and the calls `fault`, `lay_out` and `value`, and shows the laws; the other
-// calls follow.
+/// A kind of element. A value of the type is an element where none of its fields is out of range; its fields are public, so
+/// that a caller may hand over any value, and `make` and `write` refuse one that is no element.
+///
+/// Who adds a kind gives the width, the coding, and the calls `fault`, `lay_out` and `value`, and shows the laws; the other
+/// calls follow.
 pub trait Kind: Copy {
-    // The width of an element in bytes.
+    /// The width of an element in bytes.
     const W: usize;
 
-    // The same, for clauses.
+    /// The same, for clauses.
     ghost W: { ℕ };
 
-    // The kind's bytes and fields, for clauses.
+    /// The kind's bytes and fields, for clauses.
     ghost coding: { Coding Self };
 
-    // Some element.
+    /// Some element.
     ghost example: { Self };
 
-    // The width.
+    /// The width.
     fn width() -> usize
         ensures { result ≡ coding.width }
     {
         Self::W
     }
 
-    // The offset of the first field out of range; none for an element.
+    /// The offset of the first field out of range; none for an element.
     fn fault(&self) -> Option<usize>
         ensures { result ≡ fault_of coding self.now };
 
-    // Lays the fields out in the front of the area, in range or not.
+    /// Lays the fields out in the front of the area, in range or not.
     fn lay_out(&self, area: &mut [u8; WIDEST])
         ensures { area.new ≡ front (coding.written self.now) area.old };
 
-    // The value that bytes hold, in range or not; none where they are not as many as the kind is wide, or their tag is unknown.
+    /// The value that bytes hold, in range or not; none where they are not as many as the kind is wide, or their tag is unknown.
     fn value(bytes: &[u8]) -> Option<Self>
         ensures { result ≡ coding.value bytes.now };
 
-    // The value as an element; refused where a field is out of range.
+    /// The value as an element; refused where a field is out of range.
     fn make(self) -> Result<Self, Refusal>
     where
         Self: Sized,
@@ -63,7 +63,7 @@ pub trait Kind: Copy {
         }
     }
 
-    // Writes the element into the front of the area and answers its width; refused where a field is out of range.
+    /// Writes the element into the front of the area and answers its width; refused where a field is out of range.
     fn write(&self, area: &mut [u8; WIDEST]) -> Result<usize, Refusal>
         ensures answer { (result, area.new) ≡ element_into coding self.now area.old }
         ensures back { elim result [ Ok n ↦ element_from coding (take n area.new) ≡ Ok self.now | Err _ ↦ Unit {0} ] }
@@ -72,7 +72,7 @@ pub trait Kind: Copy {
         Ok(Self::width())
     }
 
-    // The element that bytes hold, or the offset of the first field at fault.
+    /// The element that bytes hold, or the offset of the first field at fault.
     fn read(bytes: &[u8]) -> Result<Self, usize>
         ensures answer { result ≡ element_from coding bytes.now }
         ensures only { elim result [ Ok e ↦ (fault_of coding e ≡ None) × (coding.written e ≡ bytes.now) | Err at ↦ at < coding.width ] }
@@ -84,27 +84,27 @@ pub trait Kind: Copy {
         }
     }
 
-    // The constant is the coding's width.
+    /// The constant is the coding's width.
     ghost wide: { coding.width ≡ W };
 
-    // A width is 1 to 18.
+    /// A width is 1 to 18.
     ghost narrow: { (1 ≤ coding.width) × (coding.width ≤ 18) };
 
-    // There is at least one element.
+    /// There is at least one element.
     ghost inhabited: { fault_of coding example ≡ None };
 
-    // Writing gives as many bytes as the kind is wide.
+    /// Writing gives as many bytes as the kind is wide.
     ghost exact: { (e : Self) → length (coding.written e) ≡ coding.width };
 
-    // The bytes of an element hold that element.
+    /// The bytes of an element hold that element.
     ghost returned: { (e : Self) → fault_of coding e ≡ None → coding.value (coding.written e) ≡ Some e };
 
-    // Bytes that hold a value are the bytes of that value, so that no other bytes hold it.
+    /// Bytes that hold a value are the bytes of that value, so that no other bytes hold it.
     ghost only: { (bs : List ℕ) (e : Self) → AllByRecursion (λ b. b < 256) bs → coding.value bs ≡ Some e → coding.written e ≡ bs };
 
-    // The fields stand in the order of their offsets, so that the first one at fault has the lowest.
+    /// The fields stand in the order of their offsets, so that the first one at fault has the lowest.
     ghost ordered: { (e : Self) → InOrder (coding.fields e) };
 
-    // A field at fault lies within the element.
+    /// A field at fault lies within the element.
     ghost inside: { (e : Self) (at : ℕ) → fault_of coding e ≡ Some at → at < coding.width };
 }

@@ -1,4 +1,4 @@
-// Orders: what the hut asks of the mast.
+//! Orders: what the hut asks of the mast.
 ghost use Rattle.std.specs.Prelude.{◌≡◌};
 ghost use Rattle.element.specs.Orders.{an_order, order_coding, tag_of};
 ghost use Rattle.element.specs.OrderLaws.{order_only};
@@ -6,18 +6,18 @@ ghost use Rattle.std.proofs.Common.{rules};
 
 use crate::{Kind, WIDEST};
 
-// Where the receiver is to be tuned, where the antenna is to point, or which launch note is meant.
+/// Where the receiver is to be tuned, where the antenna is to point, or which launch note is meant.
 #[derive(Clone, Copy, PartialEq, Eq, Debug)]
 pub enum Order {
-    // The frequency, 400,150 to 406,000 kHz.
+    /// The frequency, 400,150 to 406,000 kHz.
     Tune { khz: u32 },
-    // The bearing, 0 to 35,999, and the elevation, 0 to 9,000, both in hundredths of a degree.
+    /// The bearing, 0 to 35,999, and the elevation, 0 to 9,000, both in hundredths of a degree.
     Point { bearing: u16, elevation: u16 },
-    // A launch note, by any number.
+    /// A launch note, by any number.
     Note { number: u32 },
 }
 
-// What the first byte of an order says that it is.
+/// What the first byte of an order says that it is.
 #[derive(Clone, Copy, PartialEq, Eq, Debug)]
 enum Tag {
     Tune = 1,
@@ -25,7 +25,7 @@ enum Tag {
     Note = 3,
 }
 
-// A byte that is no tag.
+/// A byte that is no tag.
 #[derive(Clone, Copy, PartialEq, Eq, Debug)]
 struct UnknownTag;
 
@@ -45,20 +45,20 @@ impl TryFrom<u8> for Tag {
 }
 
 impl Order {
-    // The lowest frequency, in kHz.
+    /// The lowest frequency, in kHz.
     pub const MIN_KHZ: u32 = 400_150;
 
-    // The highest frequency, in kHz.
+    /// The highest frequency, in kHz.
     pub const MAX_KHZ: u32 = 406_000;
 
-    // The largest bearing, in hundredths of a degree; the smallest is 0.
+    /// The largest bearing, in hundredths of a degree; the smallest is 0.
     pub const MAX_BEARING: u16 = 35_999;
 
-    // The largest elevation, in hundredths of a degree; the smallest is 0.
+    /// The largest elevation, in hundredths of a degree; the smallest is 0.
     pub const MAX_ELEVATION: u16 = 9_000;
 }
 
-// Five bytes: the tag, and 32 bits of what it says.
+/// Five bytes: the tag, and 32 bits of what it says.
 impl Kind for Order {
     const W: usize = 5;
 

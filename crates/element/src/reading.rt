@@ -1,46 +1,46 @@
-// Readings: what the balloon's instruments told the mast.
+//! Readings: what the balloon's instruments told the mast.
 ghost use Rattle.element.specs.Readings.{a_reading, reading_coding};
 ghost use Rattle.element.specs.ReadingLaws.{reading_only};
 ghost use Rattle.std.proofs.Common.{rules};
 
 use crate::{Kind, WIDEST};
 
-// One reading of the instruments.
+/// One reading of the instruments.
 #[derive(Clone, Copy, PartialEq, Eq, Debug)]
 pub struct Reading {
-    // Tenths of a second from release.
+    /// Tenths of a second from release.
     pub time: u32,
-    // Decimetres, −5,000 to 500,000.
+    /// Decimetres, −5,000 to 500,000.
     pub height: i32,
-    // Hundredths of a degree Celsius, −12,000 to 6,000.
+    /// Hundredths of a degree Celsius, −12,000 to 6,000.
     pub temperature: i16,
-    // Tenths of a percent, 0 to 1,000.
+    /// Tenths of a percent, 0 to 1,000.
     pub humidity: u16,
-    // Tenths of a hectopascal, 0 to 11,000.
+    /// Tenths of a hectopascal, 0 to 11,000.
     pub pressure: u16,
 }
 
 impl Reading {
-    // The lowest height, in decimetres.
+    /// The lowest height, in decimetres.
     pub const MIN_HEIGHT: i32 = -5_000;
 
-    // The greatest height, in decimetres.
+    /// The greatest height, in decimetres.
     pub const MAX_HEIGHT: i32 = 500_000;
 
-    // The lowest temperature, in hundredths of a degree Celsius.
+    /// The lowest temperature, in hundredths of a degree Celsius.
     pub const MIN_TEMPERATURE: i16 = -12_000;
 
-    // The highest temperature, in hundredths of a degree Celsius.
+    /// The highest temperature, in hundredths of a degree Celsius.
     pub const MAX_TEMPERATURE: i16 = 6_000;
 
-    // The highest humidity, in tenths of a percent; the lowest is 0.
+    /// The highest humidity, in tenths of a percent; the lowest is 0.
     pub const MAX_HUMIDITY: u16 = 1_000;
 
-    // The highest pressure, in tenths of a hectopascal; the lowest is 0.
+    /// The highest pressure, in tenths of a hectopascal; the lowest is 0.
     pub const MAX_PRESSURE: u16 = 11_000;
 }
 
-// Fourteen bytes: the fields in their order.
+/// Fourteen bytes: the fields in their order.
 impl Kind for Reading {
     const W: usize = 14;
 

@@ -1,4 +1,4 @@
-// The header of a frame: its first twelve bytes.
+//! The header of a frame: its first twelve bytes.
 ghost use Rattle.std.specs.Prelude.{◌≡◌};
 ghost use Rattle.frame.specs.Formats.{header_bytes, sender_byte};
 ghost use Rattle.frame.specs.Reads.{tag_in};
@@ -6,7 +6,7 @@ ghost use Rattle.frame.specs.Reads.{tag_in};
 use crate::Side;
 use refusal::Refusal;
 
-// The fields of a header, behind the mark and the version.
+/// The fields of a header, behind the mark and the version.
 #[derive(Clone, Copy)]
 pub(crate) struct Header {
     pub tag: u8,
@@ -16,22 +16,22 @@ pub(crate) struct Header {
     pub width: u8,
 }
 
-// The version of the format: two bytes behind the mark, "MHL", of which the higher one is 0.
+/// The version of the format: two bytes behind the mark, "MHL", of which the higher one is 0.
 pub(crate) const VERSION: u8 = 1;
 
-// How many bytes a header has.
+/// How many bytes a header has.
 pub(crate) const HEADER: usize = 12;
 
-// What a frame carries, by the number that stands for it in the header.
+/// What a frame carries, by the number that stands for it in the header.
 #[derive(Clone, Copy, PartialEq, Eq, Debug)]
 pub(crate) enum Tag {
-    // An acknowledgement alone.
+    /// An acknowledgement alone.
     Bare = 1,
-    // An acknowledgement and an element.
+    /// An acknowledgement and an element.
     Laden = 2,
 }
 
-// The tag that a byte stands for.
+/// The tag that a byte stands for.
 impl TryFrom<u8> for Tag {
     type Error = Refusal;
 
@@ -46,7 +46,7 @@ impl TryFrom<u8> for Tag {
     }
 }
 
-// The byte that names a side as the sender.
+/// The byte that names a side as the sender.
 impl From<Side> for u8 {
     ghost from_gives = { λ side byte. byte ≡ sender_byte side };
 
@@ -59,7 +59,7 @@ impl From<Side> for u8 {
 }
 
 impl Header {
-    // The twelve bytes.
+    /// The twelve bytes.
     pub(crate) fn bytes(self) -> [u8; HEADER]
         ensures { result ≡ header_bytes self }
     {

@@ -1,6 +1,6 @@
-// Frames: what one end of a link sends to the other, as bytes.
-//
-// A frame says what its sender has heard so far, by an acknowledgement, and may carry one element with its number.
+//! Frames: what one end of a link sends to the other, as bytes.
+//!
+//! A frame says what its sender has heard so far, by an acknowledgement, and may carry one element with its number.
 #![tactic(auto)]
 
 ghost use Rattle.std.specs.Prelude.{◌≡◌};
@@ -17,38 +17,38 @@ pub use octets::LONGEST;
 pub use reader::{hear, read};
 pub use writer::write;
 
-// The two ends of a link: the mast on its hill and the hut at the launch field.
+/// The two ends of a link: the mast on its hill and the hut at the launch field.
 #[derive(Clone, Copy, PartialEq, Eq, Debug)]
 pub enum Side {
     Mast,
     Hut,
 }
 
-// The cycles that a frame's two numbers are taken from. The numbers of a cycle are those below it.
+/// The cycles that a frame's two numbers are taken from. The numbers of a cycle are those below it.
 #[derive(Clone, Copy, PartialEq, Eq, Debug)]
 pub struct Cycles {
-    // The cycle of the stream that is acknowledged.
+    /// The cycle of the stream that is acknowledged.
     pub ack: u16,
-    // The cycle of the stream that the frame belongs to.
+    /// The cycle of the stream that the frame belongs to.
     pub number: u16,
 }
 
-// What a frame is held against: the side that sends it, and its cycles.
+/// What a frame is held against: the side that sends it, and its cycles.
 #[derive(Clone, Copy, PartialEq, Eq, Debug)]
 pub struct Format {
     pub sender: Side,
     pub cycles: Cycles,
 }
 
-// A frame: bare, with the acknowledgement alone, or laden, with a number and an element too. The element is a value of its
-// kind, or the part of the bytes heard in which it stands.
+/// A frame: bare, with the acknowledgement alone, or laden, with a number and an element too. The element is a value of its
+/// kind, or the part of the bytes heard in which it stands.
 #[derive(Clone, Copy, PartialEq, Eq, Debug)]
 pub enum Frame<E> {
     Bare { ack: u16 },
     Laden { ack: u16, number: u16, element: E },
 }
 
-// Refuses a number, at its place, that is not below its cycle.
+/// Refuses a number, at its place, that is not below its cycle.
 fn below(place: usize, number: u16, cycle: u16) -> Result<(), Refusal>
     ensures { result ≡ unless tt (past_at place number cycle) }
 {
@@ -60,7 +60,7 @@ fn below(place: usize, number: u16, cycle: u16) -> Result<(), Refusal>
 }
 
 impl<E> Frame<E> {
-    // Refuses a frame whose acknowledgement, at place 7, or number, at place 9, is not below its cycle.
+    /// Refuses a frame whose acknowledgement, at place 7, or number, at place 9, is not below its cycle.
     fn on_cycle(&self, format: Format) -> Result<(), Refusal>
         ensures { result ≡ unless tt (past_cycle format self.now) }
     {

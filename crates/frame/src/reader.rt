@@ -1,4 +1,4 @@
-// Reading frames.
+//! Reading frames.
 ghost use Rattle.std.specs.Prelude.{◌≡◌, true, is_ok};
 ghost use Rattle.frame.specs.Causes.{SmallestFirst};
 ghost use Rattle.frame.specs.Formats.{answered};
@@ -11,10 +11,10 @@ use element::Kind;
 use octets::check_of;
 use refusal::Refusal;
 
-// How many bytes the shortest frame has: a header and the check.
+/// How many bytes the shortest frame has: a header and the check.
 const SHORTEST: usize = HEADER + 2;
 
-// Whether the last two bytes are the check of those before.
+/// Whether the last two bytes are the check of those before.
 fn is_sealed(bytes: &[u8]) -> bool
     ensures { result ≡ is_sealed bytes.now }
 {
@@ -24,14 +24,14 @@ fn is_sealed(bytes: &[u8]) -> bool
     check_of(covered) == u16::from_be_bytes([*high, *low])
 }
 
-// The header of the bytes heard, and the bytes between it and the check.
+/// The header of the bytes heard, and the bytes between it and the check.
 #[derive(Clone, Copy)]
 struct Parts<'a> {
     header: Header,
     element: &'a [u8],
 }
 
-// The parts of bytes that are 14 to 32 and begin with the mark and the version.
+/// The parts of bytes that are 14 to 32 and begin with the mark and the version.
 impl<'a> TryFrom<&'a [u8]> for Parts<'a> {
     type Error = Refusal;
 
@@ -73,7 +73,7 @@ impl<'a> TryFrom<&'a [u8]> for Parts<'a> {
 }
 
 impl<'a> Parts<'a> {
-    // The bare frame that the header says.
+    /// The bare frame that the header says.
     fn bare(self) -> Result<Frame<&'a [u8]>, Refusal>
         ensures { answered (λ e. e.now) result ≡ bare_in self.entry.header self.entry.element.now }
     {
@@ -88,7 +88,7 @@ impl<'a> Parts<'a> {
         })
     }
 
-    // The laden frame that the header says, of the kind K.
+    /// The laden frame that the header says, of the kind K.
     fn laden<K: Kind>(self) -> Result<Frame<&'a [u8]>, Refusal>
         ensures { answered (λ e. e.now) result ≡ laden_in K.coding.width self.entry.header self.entry.element.now }
     {
@@ -103,7 +103,7 @@ impl<'a> Parts<'a> {
         })
     }
 
-    // The frame that the parts are, if the header's fields are well formed.
+    /// The frame that the parts are, if the header's fields are well formed.
     fn well_formed<K: Kind>(self, sender: Side) -> Result<Frame<&'a [u8]>, Refusal>
         ensures { answered (λ e. e.now) result ≡ frame_in sender K.coding.width self.entry.header self.entry.element.now }
     {
@@ -117,7 +117,7 @@ impl<'a> Parts<'a> {
         }
     }
 
-    // The same, if its numbers are below their cycles too.
+    /// The same, if its numbers are below their cycles too.
     fn frame<K: Kind>(self, format: Format) -> Result<Frame<&'a [u8]>, Refusal>
         ensures { answered (λ e. e.now) result ≡ on_cycle format (frame_in format.sender K.coding.width self.entry.header self.entry.element.now) }
     {
@@ -127,7 +127,7 @@ impl<'a> Parts<'a> {
     }
 }
 
-// The frame in the bytes heard, for a kind K of element that is not looked into; or why they are none.
+/// The frame in the bytes heard, for a kind K of element that is not looked into; or why they are none.
 pub fn read<'a, K: Kind>(format: Format, bytes: &'a [u8]) -> Result<Frame<&'a [u8]>, Refusal>
     ensures answer { answered (λ e. e.now) result ≡ read_from format K.coding.width bytes.now }
     ensures only { OnlyWritten format K.coding.width bytes.now (answered (λ e. e.now) result) }
@@ -143,7 +143,7 @@ pub fn read<'a, K: Kind>(format: Format, bytes: &'a [u8]) -> Result<Frame<&'a [u
     parts.frame::<K>(format)
 }
 
-// What the bytes heard say, with the element of the kind K; or why they are refused.
+/// What the bytes heard say, with the element of the kind K; or why they are refused.
 pub fn hear<K: Kind>(format: Format, bytes: &[u8]) -> Result<Frame<K>, Refusal>
     ensures answer { result ≡ hear_from K.coding format bytes.now }
     ensures only { OnlyHeard K.coding format bytes.now result }

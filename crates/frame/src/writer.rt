@@ -1,4 +1,4 @@
-// Writing frames.
+//! Writing frames.
 ghost use Rattle.std.specs.Prelude.{◌≡◌, ◌≤◌, ◌++◌, length};
 ghost use Rattle.refusal.specs.Refusals.{unless};
 ghost use Rattle.frame.specs.Formats.{frame_bytes, header_bytes, mapped, sealed_bytes};
@@ -12,7 +12,7 @@ use element::{Kind, WIDEST};
 use octets::check_of;
 use refusal::Refusal;
 
-// The bytes of a header, those of an element, and the check of both.
+/// The bytes of a header, those of an element, and the check of both.
 fn with_check(header: Header, element: &[u8]) -> ArrayVec<u8, LONGEST>
     requires { length element.now ≤ 18 }
     ensures { result.items ≡ sealed_bytes (header_bytes header ++ element.now) }
@@ -26,7 +26,7 @@ fn with_check(header: Header, element: &[u8]) -> ArrayVec<u8, LONGEST>
 }
 
 impl<K: Kind> Frame<K> {
-    // The frame's bytes, whatever its numbers; refused where a field of its element is out of range.
+    /// The frame's bytes, whatever its numbers; refused where a field of its element is out of range.
     #[tactic(auto, unfolding(crate::specs::Formats::frame_bytes))]
     fn bytes(&self, sender: Side) -> Result<ArrayVec<u8, LONGEST>, Refusal>
         ensures { items_in result ≡ unless (frame_bytes sender (mapped K.coding.written self.now)) (unfit K.coding self.now) }
@@ -51,7 +51,7 @@ impl<K: Kind> Frame<K> {
     }
 }
 
-// Writes a frame into the front of the area and answers how many bytes it has. A refusal leaves the area as it was.
+/// Writes a frame into the front of the area and answers how many bytes it has. A refusal leaves the area as it was.
 pub fn write<K: Kind>(
     format: Format,
     frame: &Frame<K>,

@@ -1,4 +1,4 @@
-// The calls of a pool.
+//! The calls of a pool.
 ghost use Rattle.std.specs.Prelude.{◌≡◌};
 ghost use Rattle.air.specs.Waiting.{empty_air};
 ghost use Rattle.pool.specs.Pools.{pool_state};
@@ -11,7 +11,7 @@ use octets::LONGEST;
 use refusal::Refusal;
 
 impl Pool {
-    // A pool in which no frame waits, with a bound of its own.
+    /// A pool in which no frame waits, with a bound of its own.
     pub fn new(bound: u8) -> Pool
         ensures { pool_state result ≡ empty_air 16 bound }
     {

@@ -1,4 +1,4 @@
-// What can be read off a pool.
+//! What can be read off a pool.
 ghost use Rattle.pool.specs.Pools.{pool_sound, pool_state};
 
 use crate::{CAPACITY, Pool};

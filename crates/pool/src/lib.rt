@@ -1,4 +1,4 @@
-// The pool: an air with a table of its own.
+//! The pool: an air with a table of its own.
 #![tactic(auto)]
 
 ghost use Rattle.std.specs.Prelude.{◌≤◌, length};
@@ -13,10 +13,10 @@ mod gauge;
 
 use entry::Entry;
 
-// How many frames may wait in a pool.
+/// How many frames may wait in a pool.
 pub const CAPACITY: usize = 16;
 
-// A table of at most sixteen entries, oldest first, each of which holds a waiting frame.
+/// A table of at most sixteen entries, oldest first, each of which holds a waiting frame.
 #[derive(Drop)]
 pub struct Pool {
     waiting: ArrayVec<Entry, CAPACITY>,
@@ -26,5 +26,5 @@ pub struct Pool {
     ghost each: { EachFine bound (frames_in waiting.items) },
 }
 
-// What a pool takes of memory, in bytes: 48 for each entry, and 16 besides.
+/// What a pool takes of memory, in bytes: 48 for each entry, and 16 besides.
 const _: () = prove!(size_of::<Pool>() == 48 * CAPACITY + 16);

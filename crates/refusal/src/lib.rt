@@ -1,4 +1,4 @@
-// Why a call says no: one enum for the calls of all crates. A call that refuses changes nothing.
+//! Why a call says no: one enum for the calls of all crates. A call that refuses changes nothing.
 #![tactic(auto)]
 
 ghost use Rattle.std.specs.Prelude.{◌≡◌};
@@ -7,50 +7,50 @@ ghost use Rattle.refusal.specs.Refusals.{number_of, place_of, reason_of, shown_o
 use std::error::Error;
 use std::fmt;
 
-// The causes, in the order of their numbers. A call to which several apply answers the one with the smallest number, and
-// of equal numbers the one with the lowest place.
+/// The causes, in the order of their numbers. A call to which several apply answers the one with the smallest number, and
+/// of equal numbers the one with the lowest place.
 #[derive(Clone, Copy, PartialEq, Eq, Debug)]
 pub enum Refusal {
-    // 1: a drafted window is not 1 to 32.
+    /// 1: a drafted window is not 1 to 32.
     WindowOutOfLimits,
-    // 2: a drafted bound is not 0 to 255.
+    /// 2: a drafted bound is not 0 to 255.
     BoundOutOfLimits,
-    // 3: a drafted cycle is shorter than its window and the bounds ask for, or longer than 16,384.
+    /// 3: a drafted cycle is shorter than its window and the bounds ask for, or longer than 16,384.
     CycleOutOfLimits,
-    // 4: as many elements are held as the window is wide.
+    /// 4: as many elements are held as the window is wide.
     WindowFull,
-    // 5: no element is held at that place.
+    /// 5: no element is held at that place.
     NotHeld,
-    // 6: as many frames wait in the air as it has room for.
+    /// 6: as many frames wait in the air as it has room for.
     AirFull,
-    // 7: no frame waits at that place.
+    /// 7: no frame waits at that place.
     NoFrame,
-    // 8: an older frame has been overtaken as often as the bound allows.
+    /// 8: an older frame has been overtaken as often as the bound allows.
     BoundReached,
-    // 9: what is put into an air has 0 bytes or more than 32.
+    /// 9: what is put into an air has 0 bytes or more than 32.
     SizeOutOfLimits,
-    // 10: the bytes heard are not 14 to 32. Its place is 0.
+    /// 10: the bytes heard are not 14 to 32. Its place is 0.
     FrameLength,
-    // 11: the bytes heard do not begin with the mark and the version. Its place is 0.
+    /// 11: the bytes heard do not begin with the mark and the version. Its place is 0.
     MarkOrVersion,
-    // 12: the check is not that of the bytes before it. Its place is the check's first byte.
+    /// 12: the check is not that of the bytes before it. Its place is the check's first byte.
     WrongCheck { place: usize },
-    // 13: a header field is not as the format says: byte 5, 6, 9 or 11, which is its place.
+    /// 13: a header field is not as the format says: byte 5, 6, 9 or 11, which is its place.
     WrongField { place: usize },
-    // 14: an acknowledgement or a number is not below its cycle: place 7 or 9.
+    /// 14: an acknowledgement or a number is not below its cycle: place 7 or 9.
     NumberPastCycle { place: usize },
-    // 15: the element's bytes are no element of the kind. Its place is that of the first field at fault.
+    /// 15: the element's bytes are no element of the kind. Its place is that of the first field at fault.
     NoElement { place: usize },
-    // 16: a list lent to settle is too short.
+    /// 16: a list lent to settle is too short.
     ListTooShort,
-    // 17: an element that is made, or given by itself, has a field out of range.
+    /// 17: an element that is made, or given by itself, has a field out of range.
     FieldOutOfRange,
-    // 18: an air that settle needs has room for no frame.
+    /// 18: an air that settle needs has room for no frame.
     NoRoomInAir,
 }
 
 impl Refusal {
-    // The number by which the cause is known, 1 to 18.
+    /// The number by which the cause is known, 1 to 18.
     pub fn number(self) -> u8
         ensures { result ≡ number_of self }
     {
@@ -76,7 +76,7 @@ impl Refusal {
         }
     }
 
-    // The byte of the frame that is at fault, for the causes that are about the bytes of a frame.
+    /// The byte of the frame that is at fault, for the causes that are about the bytes of a frame.
     pub fn place(self) -> Option<usize>
         ensures { result ≡ place_of self }
     {
@@ -90,7 +90,7 @@ impl Refusal {
         }
     }
 
-    // The cause, in words for people.
+    /// The cause, in words for people.
     fn reason(self) -> &'static str
         ensures { result.now ≡ reason_of self }
     {
@@ -117,7 +117,7 @@ impl Refusal {
     }
 }
 
-// For people: the number, the place if there is one, and the cause in words.
+/// For people: the number, the place if there is one, and the cause in words.
 impl fmt::Display for Refusal {
     ghost output = { shown_of };
 

@@ -1,5 +1,5 @@
-// How a flight is told to people: numbers, readings and what a listener makes of bytes, in plain text, and the cycles of the flight
-// that is told.
+//! How a flight is told to people: numbers, readings and what a listener makes of bytes, in plain text, and the cycles of the flight
+//! that is told.
 #![tactic(auto)]
 
 ghost use Rattle.std.specs.Prelude.{◌≡◌};
@@ -12,7 +12,7 @@ use frame::{Cycles, Format, Frame, Side, hear};
 use refusal::Refusal;
 use std::fmt;
 
-// Hut-bound frames: the mast sends them on a cycle of 11, and acknowledges the other stream's cycle of 17.
+/// Hut-bound frames: the mast sends them on a cycle of 11, and acknowledges the other stream's cycle of 17.
 pub const HUT_BOUND: Format = Format {
     sender: Side::Mast,
     cycles: Cycles {
@@ -21,7 +21,7 @@ pub const HUT_BOUND: Format = Format {
     },
 };
 
-// Mast-bound frames, which the hut sends.
+/// Mast-bound frames, which the hut sends.
 pub const MAST_BOUND: Format = Format {
     sender: Side::Hut,
     cycles: Cycles {
@@ -30,7 +30,7 @@ pub const MAST_BOUND: Format = Format {
     },
 };
 
-// The reading that the told flights begin with.
+/// The reading that the told flights begin with.
 pub const READING: Reading = Reading {
     time: 4_212,
     height: 15_234,
@@ -39,14 +39,14 @@ pub const READING: Reading = Reading {
     pressure: 8_431,
 };
 
-// A number of tenths, or of hundredths, which is told with a decimal point.
+/// A number of tenths, or of hundredths, which is told with a decimal point.
 #[derive(Clone, Copy, PartialEq, Eq, Debug)]
 pub enum Decimal {
     Tenths(i64),
     Hundredths(i64),
 }
 
-// The sign that is told before the size of a number.
+/// The sign that is told before the size of a number.
 fn sign(number: i64) -> &'static str
     ensures { result.now ≡ sign_text number }
 {
@@ -71,7 +71,7 @@ impl fmt::Display for Decimal {
     }
 }
 
-// A value as it is told: a reading with its units, or a frame with what it carries.
+/// A value as it is told: a reading with its units, or a frame with what it carries.
 #[derive(Clone, Copy, PartialEq, Eq, Debug)]
 pub struct Told<T>(pub T);
 
@@ -112,17 +112,17 @@ impl fmt::Display for Told<Frame<Reading>> {
     }
 }
 
-// What a listener made of some bytes.
+/// What a listener made of some bytes.
 #[derive(Clone, Copy, PartialEq, Eq, Debug)]
 pub struct Heard<'a> {
-    // Who listened.
+    /// Who listened.
     pub who: &'a str,
-    // What was heard, or why nothing was.
+    /// What was heard, or why nothing was.
     pub answer: Result<Frame<Reading>, Refusal>,
 }
 
 impl<'a> Heard<'a> {
-    // What somebody makes of bytes who expects frames of this format.
+    /// What somebody makes of bytes who expects frames of this format.
     pub fn by(who: &'a str, format: Format, bytes: &[u8]) -> Heard<'a>
         ensures who { result.who.now ≡ who.now }
         ensures answer { result.answer ≡ hear_from reading_coding format bytes.now }

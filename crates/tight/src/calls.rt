@@ -1,4 +1,4 @@
-// The calls of a tight air.
+//! The calls of a tight air.
 ghost use Rattle.std.specs.Prelude.{◌≡◌};
 ghost use Rattle.air.specs.Steps.{lose_step, put_step, repeat_step, take_step};
 ghost use Rattle.tight.specs.SameList.{Keeps};
@@ -9,7 +9,7 @@ use air::{Air, check_answer};
 use octets::LONGEST;
 use refusal::Refusal;
 
-// Each call promises, beside what every air promises, what it keeps of the air below. For that, taking is passed on too.
+/// Each call promises, beside what every air promises, what it keeps of the air below. For that, taking is passed on too.
 impl<A: Air> Air for Tight<A> {
     fn put(&mut self, bytes: &[u8]) -> Result<(), Refusal>
         ensures step { (result, tight_state A.Gauge.state self.new) ≡ put_step bytes.now (tight_state A.Gauge.state self.old) }

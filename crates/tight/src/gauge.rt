@@ -1,4 +1,4 @@
-// What can be read off a tight air.
+//! What can be read off a tight air.
 ghost use Rattle.tight.specs.Tights.{tight_sound, tight_state};
 
 use crate::Tight;

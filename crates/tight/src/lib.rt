@@ -1,4 +1,4 @@
-// The tight air: any other air, held to a bound that may be smaller than its own.
+//! The tight air: any other air, held to a bound that may be smaller than its own.
 #![tactic(auto)]
 
 ghost use Rattle.std.specs.Prelude.{◌≡◌, min};
@@ -11,7 +11,7 @@ use air::{Air, Gauge, clear};
 mod calls;
 mod gauge;
 
-// The air below keeps the frames and their counts; the bound is the smaller of its own and the one given.
+/// The air below keeps the frames and their counts; the bound is the smaller of its own and the one given.
 #[derive(Drop)]
 pub struct Tight<A> {
     below: A,
@@ -19,7 +19,7 @@ pub struct Tight<A> {
 }
 
 impl<A: Air> Tight<A> {
-    // Holds an air to a bound. Every frame that waits in it is lost.
+    /// Holds an air to a bound. Every frame that waits in it is lost.
     pub fn new(mut below: A, given: u8) -> Tight<A>
         ensures state { tight_state A.Gauge.state result ≡ empty_air (A.Gauge.state below).capacity (min given (A.Gauge.state below).bound) }
         ensures below { A.Gauge.state result.below ≡ empty_air (A.Gauge.state below).capacity (A.Gauge.state below).bound }
@@ -30,7 +30,7 @@ impl<A: Air> Tight<A> {
         Tight { below, given }
     }
 
-    // The air below, with the frames that wait in it, held to its own bound again.
+    /// The air below, with the frames that wait in it, held to its own bound again.
     pub fn release(self) -> A
         ensures { result ≡ self.below }
     {

@@ -1,4 +1,4 @@
-// Tests of airs by examples, and of one air against another.
+//! Tests of airs by examples, and of one air against another.
 use air::{Air, Gauge, Lent, clear, most_overtaken};
 use octets::LONGEST;
 use pool::Pool;
@@ -8,7 +8,7 @@ use std::fmt::Debug;
 use std::test::Fail;
 use tight::Tight;
 
-// Fails where two values differ. It takes no handle, so no helper of these tests can end the process.
+/// Fails where two values differ. It takes no handle, so no helper of these tests can end the process.
 fn check_eq<T: PartialEq + Debug + Drop>(left: T, right: T) -> Result<(), Fail> {
     if left == right {
         return Ok(());
@@ -16,12 +16,12 @@ fn check_eq<T: PartialEq + Debug + Drop>(left: T, right: T) -> Result<(), Fail> 
     Err(Fail::new(format_args!("{left:?} is not {right:?}")))
 }
 
-// An answer with the number of a refusal in its place.
+/// An answer with the number of a refusal in its place.
 fn numbered<T: Drop>(answer: Result<T, Refusal>) -> Result<T, u8> {
     answer.map_err(Refusal::number)
 }
 
-// An empty air with room for some frames is filled, and then refuses by 6, but a wrong size by 9 first.
+/// An empty air with room for some frames is filled, and then refuses by 6, but a wrong size by 9 first.
 fn fills_up<A: Air>(air: &mut A) -> Result<(), Fail> {
     let capacity = air.capacity();
     for i in 0..capacity {
@@ -38,12 +38,12 @@ fn fills_up<A: Air>(air: &mut A) -> Result<(), Fail> {
     check_eq(air.waiting(), 0)
 }
 
-// The first three counts, where frames wait.
+/// The first three counts, where frames wait.
 fn three_counts<A: Air>(air: &A) -> [Option<u8>; 3] {
     [air.count(0).ok(), air.count(1).ok(), air.count(2).ok()]
 }
 
-// Repeating raises the counts of older frames alone, up to the bound 2, and writes the front of the area.
+/// Repeating raises the counts of older frames alone, up to the bound 2, and writes the front of the area.
 fn repeats<A: Air>(air: &mut A) -> Result<(), Fail> {
     let mut area = [9; LONGEST];
     check_eq(air.repeat(2, &mut area), Ok(5))?;
@@ -55,7 +55,7 @@ fn repeats<A: Air>(air: &mut A) -> Result<(), Fail> {
     check_eq(most_overtaken(air), 2)
 }
 
-// Where the oldest count is the bound, younger frames are refused by 8, and a place without a frame by 7; nothing changes.
+/// Where the oldest count is the bound, younger frames are refused by 8, and a place without a frame by 7; nothing changes.
 fn refuses<A: Air>(air: &mut A) -> Result<(), Fail> {
     let mut area = [9; LONGEST];
     check_eq(numbered(air.take(2, &mut area)), Err(8))?;
@@ -66,7 +66,7 @@ fn refuses<A: Air>(air: &mut A) -> Result<(), Fail> {
     check_eq(three_counts(air), [Some(2), Some(1), Some(0)])
 }
 
-// Losing the oldest frees those behind it, and raises no count; taking raises those of older frames.
+/// Losing the oldest frees those behind it, and raises no count; taking raises those of older frames.
 fn empties<A: Air>(air: &mut A) -> Result<(), Fail> {
     let mut area = [9; LONGEST];
     check_eq(air.lose(0), Ok(()))?;
@@ -78,7 +78,7 @@ fn empties<A: Air>(air: &mut A) -> Result<(), Fail> {
     check_eq((most_overtaken(air), air.waiting()), (0, 0))
 }
 
-// An empty air with bound 2 and room for three.
+/// An empty air with bound 2 and room for three.
 fn counts<A: Air>(air: &mut A) -> Result<(), Fail> {
     air.put(b"old")?;
     air.put(b"mid")?;
@@ -104,7 +104,7 @@ fn every_air_behaves_alike() -> Result<(), Fail> {
     behaves(&mut Tight::new(Lent(&mut shelf), 2))
 }
 
-// How many frames fit on a shelf with so many bytes of memory, which are at most 36,072.
+/// How many frames fit on a shelf with so many bytes of memory, which are at most 36,072.
 fn room(bytes: usize) -> usize {
     let mut memory = [0; 36_072];
     Shelf::new(&mut memory[0..bytes.min(36_072)], 0).capacity()
@@ -135,7 +135,7 @@ fn capacities_and_bounds() -> Result<(), Fail> {
     )
 }
 
-// What waited before an air was held to a bound is lost, and what waits then is there when it is released.
+/// What waited before an air was held to a bound is lost, and what waits then is there when it is released.
 #[test]
 fn tight_airs_start_empty() -> Result<(), Fail> {
     let mut pool = Pool::new(9);
@@ -150,13 +150,13 @@ fn tight_airs_start_empty() -> Result<(), Fail> {
     check_eq(&area[0..5], b"after".as_slice())
 }
 
-// The next number of a fixed sequence that looks random.
+/// The next number of a fixed sequence that looks random.
 fn next(draw: u32) -> u32 {
     draw.wrapping_mul(1_664_525).wrapping_add(1_013_904_223)
 }
 
-// What an air answers to a call of a kind and a place that a drawn number picks, and what the area then holds. A call that answers no
-// length answers 0.
+/// What an air answers to a call of a kind and a place that a drawn number picks, and what the area then holds. A call that answers no
+/// length answers 0.
 fn called<A: Air>(air: &mut A, draw: u32) -> (Result<usize, Refusal>, [u8; LONGEST]) {
     let mut area = [9; LONGEST];
     let k = (draw >> 20 & 0xf) as usize;
@@ -171,7 +171,7 @@ fn called<A: Air>(air: &mut A, draw: u32) -> (Result<usize, Refusal>, [u8; LONGE
     (answer, area)
 }
 
-// One call on two airs: the same answer, the same area, the same counts.
+/// One call on two airs: the same answer, the same area, the same counts.
 fn same_call<A: Air, B: Air>(a: &mut A, b: &mut B, draw: u32) -> Result<(), Fail> {
     check_eq(called(a, draw), called(b, draw))?;
     check_eq(a.waiting(), b.waiting())?;
@@ -181,7 +181,7 @@ fn same_call<A: Air, B: Air>(a: &mut A, b: &mut B, draw: u32) -> Result<(), Fail
     Ok(())
 }
 
-// A thousand calls on two empty airs of the same capacity and bound.
+/// A thousand calls on two empty airs of the same capacity and bound.
 fn agree<A: Air, B: Air>(a: &mut A, b: &mut B) -> Result<(), Fail> {
     check_eq((a.capacity(), a.bound()), (b.capacity(), b.bound()))?;
     let mut draw = 2_026;

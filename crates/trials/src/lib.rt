@@ -1,5 +1,5 @@
-// Tests by examples: the ends of each field's range, the check against a plain sum, frames at the ends of their lengths, frames with one thing
-// wrong, and airs one against another. The code is proved to answer what the definitions say; these hold both against values worked out by hand.
+//! Tests by examples: the ends of each field's range, the check against a plain sum, frames at the ends of their lengths, frames with one thing
+//! wrong, and airs one against another. The code is proved to answer what the definitions say; these hold both against values worked out by hand.
 #![tactic(auto)]
 
 #[cfg(test)]
@@ -47,7 +47,7 @@ mod tests {
         }
     }
 
-    // The lowest and the highest value of each field are in range, and one beyond is not.
+    /// The lowest and the highest value of each field are in range, and one beyond is not.
     #[test]
     fn readings_at_the_ends_of_their_ranges(rt: HostRuntime) {
         let table = [
@@ -114,7 +114,7 @@ mod tests {
         assert_eq!(rt; Order::read(&[3, 0, 0, 0]).err(), Some(0));
     }
 
-    // The check by a plain sum of words, folded once at the end.
+    /// The check by a plain sum of words, folded once at the end.
     fn plain_check(bytes: &[u8]) -> u64 {
         let weights = [256u64, 1];
         let sum = bytes
@@ -126,7 +126,7 @@ mod tests {
         65_535 - (sum.saturating_sub(1) % 65_535 + 1)
     }
 
-    // Every front of a string of bytes that is not all zero, of odd and even lengths.
+    /// Every front of a string of bytes that is not all zero, of odd and even lengths.
     #[test]
     fn checks_as_a_plain_sum(rt: HostRuntime) {
         let mut bytes = [0; 97];
@@ -145,7 +145,7 @@ mod tests {
         assert_eq!(rt; check_of(&[]), 0xffff);
     }
 
-    // Whether bytes were heard, or the number and the place of the refusal.
+    /// Whether bytes were heard, or the number and the place of the refusal.
     fn number_and_place<K: Drop>(
         answer: Result<Frame<K>, Refusal>,
     ) -> Result<(), (u8, Option<usize>)> {
@@ -155,7 +155,7 @@ mod tests {
         }
     }
 
-    // What is heard of a frame of the hut with note 7, after one byte was set and the check mended.
+    /// What is heard of a frame of the hut with note 7, after one byte was set and the check mended.
     fn heard_with_byte(at: usize, byte: u8) -> Result<(), (u8, Option<usize>)> {
         let format = HUT_SENDS;
         let frame = Frame::Laden {
@@ -197,7 +197,7 @@ mod tests {
         }
     }
 
-    // What is heard of so many bytes that begin as a bare frame of the hut does, end with a right check, and are 0 between.
+    /// What is heard of so many bytes that begin as a bare frame of the hut does, end with a right check, and are 0 between.
     fn heard_of_length(n: usize) -> Result<(), (u8, Option<usize>)> {
         let mut bytes = [0; 40];
         let n = n.clamp(14, 40);

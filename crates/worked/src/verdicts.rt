@@ -1,14 +1,14 @@
-// What came of a worked case, and how an area is held against the bytes that it ought to have.
+//! What came of a worked case, and how an area is held against the bytes that it ought to have.
 ghost use Rattle.std.specs.Prelude.{◌≡◌, ◌-◌, true, ◌++◌, length};
 ghost use Rattle.worked.specs.Verdicts.{blanks, is_only, verdict_of, verdict_text};
 
 use octets::LONGEST;
 use std::fmt;
 
-// What an area holds before anything is written into it.
+/// What an area holds before anything is written into it.
 pub const BLANK: u8 = 0xAA;
 
-// Whether the area begins with these bytes and is blank behind them.
+/// Whether the area begins with these bytes and is blank behind them.
 pub fn holds_only(area: &[u8; LONGEST], bytes: &[u8]) -> bool
     ensures test { result ≡ is_only area.now bytes.now }
     ensures whole { result ≡ true → area.now ≡ bytes.now ++ blanks (32 - length bytes.now) }
@@ -16,7 +16,7 @@ pub fn holds_only(area: &[u8; LONGEST], bytes: &[u8]) -> bool
     area.starts_with(bytes) && area[bytes.len()..].iter().all(|byte| *byte == BLANK)
 }
 
-// What came of a worked case.
+/// What came of a worked case.
 #[derive(Clone, Copy, PartialEq, Eq, Debug)]
 pub enum Verdict {
     Holds,
