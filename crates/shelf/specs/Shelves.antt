@@ -1,30 +1,23 @@
 -- The air that a shelf means, and what holds of it.
-use Rattle.std.specs.Prelude.{ℕ, List}
-use Rattle.std.specs.List.{concat}
+use Rattle.std.specs.Prelude.{List}
 use Rattle.std.proofs.Common.{arith}
 use Rattle.std.proofs.ByRecursion.{All-from_get_or}
+use Rattle.std.proofs.lemmas.List.{length-map, length-take}
 use Rattle.air.specs.Waiting.{AirState, Waiting}
 use Rattle.air.specs.Steps.{Bytes, Fine, Sound}
 use Rattle.air.specs.Places.{nothing}
 use Rattle.shelf.specs.declared.Shelf.{Shelf}
 use Rattle.shelf.specs.declared.slots.Slots.{Slots}
-use Rattle.shelf.specs.Slots.{frames_in, slot_state, slots_counted}
+use Rattle.shelf.specs.Slots.{frames_in, slot_state}
 
--- the memory of some slots, end to end
-abbrev pub memory_of : Slots → List ℕ
-memory_of t = concat t.memory.now
-
--- the frames that wait in them
+-- the frames that wait in some slots
 abbrev pub frames_of : Slots → List (Waiting Bytes)
-frames_of t = frames_in t.used (memory_of t)
+frames_of t = frames_in t.used t.memory.now
 
 -- what a shelf means
 abbrev pub shelf_state : Shelf → AirState Bytes
-shelf_state s = slot_state (memory_of s.slots) s.slots.used s.bound
+shelf_state s = slot_state s.slots.memory.now s.slots.used s.bound
 
 -- what holds of every air holds of a shelf
 pub shelf_sound : (s : Shelf) → Sound (shelf_state s)
-shelf_sound s =
-    let n = s.listed in
-    let room = slots_counted s.slots.memory.now s.slots.whole in
-    (omega arith, s.small, All-from_get_or (Fine s.bound) (frames_of s.slots) nothing s.each)
+shelf_sound s = (simp (length-map, length-take) (omega arith), s.small, All-from_get_or (Fine s.bound) (frames_of s.slots) nothing s.each)

@@ -1,8 +1,7 @@
 // The shelf: an air whose frames lie in memory that the caller lends.
 #![tactic(auto)]
 
-ghost use Rattle.std.specs.Prelude.{◌≡◌, ◌≤◌, length};
-ghost use Rattle.std.specs.List.{concat};
+ghost use Rattle.std.specs.Prelude.{◌≤◌};
 ghost use Rattle.air.specs.Places.{EachFine};
 ghost use Rattle.shelf.specs.Slots.{frames_in};
 
@@ -23,10 +22,10 @@ pub const MOST: usize = 1_000;
 pub struct Shelf<'a> {
     slots: Slots<'a>,
     bound: u8,
-    // this follows, and is here for the prover
-    ghost listed: { length (frames_in slots.used (concat slots.memory.now)) ≡ slots.used },
+    // the bound is a byte
     ghost small: { bound ≤ 255 },
-    ghost each: { EachFine bound (frames_in slots.used (concat slots.memory.now)) },
+    // each waiting frame has 1 to 32 bytes, and has been overtaken at most as often as the bound allows
+    ghost each: { EachFine bound (frames_in slots.used slots.memory.now) },
 }
 
 // What a shelf takes of memory besides what is lent, in bytes.

@@ -1,9 +1,8 @@
 // Lent memory, in slots for a frame each.
-ghost use Rattle.std.specs.Prelude.{◌≡◌, ℕ, ◌+◌, ◌<◌, ◌≤◌, [], length, min, slice_index_or, slice_set};
-ghost use Rattle.std.specs.List.{All};
+ghost use Rattle.std.specs.Prelude.{◌≡◌, ℕ, ◌+◌, ◌<◌, ◌≤◌, [], ◌∷◌, ◌++◌, length, min, slice_index_or};
 ghost use Rattle.octets.specs.Areas.{front};
-ghost use Rattle.air.specs.Waiting.{overtaken, without};
-ghost use Rattle.shelf.specs.Slots.{IsSlot, frame_in, with_frame};
+ghost use Rattle.air.specs.Waiting.{fresh, overtaken, without};
+ghost use Rattle.shelf.specs.Slots.{frame_in};
 
 use crate::{MOST, SLOT};
 use octets::LONGEST;
@@ -20,14 +19,14 @@ const FRAME: usize = 4;
 pub(crate) struct Slots<'a> {
     pub memory: &'a mut [[u8; SLOT]],
     pub used: usize,
-    ghost whole: { All IsSlot memory.now },
+    // no more slots are used than there are, and no more than 1,000
     ghost within: { used ≤ min (length memory.now) 1000 },
 }
 
 // Writes a frame that has just been put into a slot.
 fn write(slot: &mut [u8; SLOT], bytes: &[u8])
     requires { length bytes.now ≤ 32 }
-    ensures { slot.new ≡ with_frame slot.old 0 bytes.now }
+    ensures { frame_in slot.new ≡ fresh bytes.now }
 {
     let n = bytes.len();
     slot[SIZE] = n as u8;
@@ -36,7 +35,7 @@ fn write(slot: &mut [u8; SLOT], bytes: &[u8])
 }
 
 impl<'a> Slots<'a> {
-    ghost use Rattle.shelf.specs.Shelves.{frames_of, memory_of};
+    ghost use Rattle.shelf.specs.Shelves.{frames_of};
 
     // How many slots there are.
     pub(crate) fn capacity(&self) -> usize
@@ -49,8 +48,9 @@ impl<'a> Slots<'a> {
     pub(crate) fn push(&mut self, bytes: &[u8])
         requires room { self.old.used < min (length self.old.memory.now) 1000 }
         requires few { length bytes.now ≤ 32 }
+        ensures len { length self.new.memory.now ≡ length self.old.memory.now }
         ensures used { self.new.used ≡ self.old.used + 1 }
-        ensures memory { self.new.memory.now ≡ slice_set self.old.memory.now self.old.used (with_frame (slice_index_or self.old.memory.now self.old.used []) 0 bytes.now) }
+        ensures frames { frames_of self.new ≡ frames_of self.old ++ (fresh bytes.now ∷ []) }
     {
         let memory = &mut *self.memory;
         write(&mut memory[self.used], bytes);
@@ -71,7 +71,7 @@ impl<'a> Slots<'a> {
     // The count of the frame in slot k.
     pub(crate) fn count(&self, k: usize) -> u8
         requires { k < self.now.used }
-        ensures { result ≡ (frame_in (memory_of self.now) k).count }
+        ensures { result ≡ (frame_in (slice_index_or self.now.memory.now k [])).count }
     {
         self.memory[k][COUNT]
     }
@@ -79,7 +79,7 @@ impl<'a> Slots<'a> {
     // Each frame before slot k is overtaken once more.
     pub(crate) fn raise_counts(&mut self, k: usize)
         requires at { k < self.old.used }
-        requires small { (i : ℕ) → i < k → (frame_in (memory_of self.old) i).count < 255 }
+        requires small { (i : ℕ) → i < k → (frame_in (slice_index_or self.old.memory.now i [])).count < 255 }
         ensures len { length self.new.memory.now ≡ length self.old.memory.now }
         ensures used { self.new.used ≡ self.old.used }
         ensures frames { frames_of self.new ≡ overtaken k (frames_of self.old) }
@@ -92,8 +92,8 @@ impl<'a> Slots<'a> {
     // Copies the frame in slot k into the front of the area, and answers its length.
     pub(crate) fn copy_to(&self, k: usize, area: &mut [u8; LONGEST]) -> usize
         requires { k < self.now.used }
-        ensures size { result ≡ length (frame_in (memory_of self.now) k).frame }
-        ensures area { area.new ≡ front (frame_in (memory_of self.now) k).frame area.old }
+        ensures size { result ≡ length (frame_in (slice_index_or self.now.memory.now k [])).frame }
+        ensures area { area.new ≡ front (frame_in (slice_index_or self.now.memory.now k [])).frame area.old }
     {
         let memory = &*self.memory;
         let slot = &memory[k];

@@ -1,30 +1,35 @@
-use Rattle.std.proofs.Common.{get_or, ap, arith, length-take}
-use Rattle.shelf.proofs.SlotLaws.{frame_end_to_end, frames_overtaken, next_slot, raised_whole, slot_raised}
+use Rattle.std.proofs.Common.{◌≡◌, ◌++◌, ℕ, List, [], map, length, get_or, take, drop, set, length-take, sym, ap, ◌∙◌, arith, rules}
+use Rattle.std.proofs.lemmas.List.{append-nil, drop_all, drop-map, get_or-map, length-map, map-append, map-set, take_all, take-map}
+use Rattle.std.proofs.lemmas.List.Edits.{map_over_more}
+use Rattle.std.proofs.lemmas.Grind.{common_steps}
+use Rattle.air.specs.Places.{nothing}
+use Rattle.air.specs.Waiting.{raised, overtaken}
+use Rattle.shelf.specs.Slots.{frame_in}
+use Rattle.shelf.proofs.SlotLaws.{frames_raised, raised_in}
 use Rattle.shelf.proofs.slots.Slots.raise_counts.Goals as goal
 
+-- the slot that comes next holds the frame that it held at first
 pub overflow_add-slot : goal.overflow_add-slot
 overflow_add-slot c =
-    let t = c.args.self.now in
     let i = c.loop-slot.slot-index in
-    let l = length-take c.args.k t.memory.now in
-    let next = next_slot t.memory.now c.loop-slot.slot-items c.args.k i (omega arith) c.loop-slot.invariant (omega arith) in
-    let here = frame_end_to_end t.memory.now i t.whole (omega arith) in
-    omega (arith, c.requires.small i (omega arith), ap (λ w. w.count) here, ap (λ s. get_or s 1 0) next)
+    let small = c.requires.small i (omega (arith, length-take {A = List ℕ})) in
+    let next = ap (λ ws. (get_or ws i nothing).count) c.loop-slot.invariant in
+    grind (arith, common_steps, small, next)
 
 pub loop-slot-preserved : goal.loop-slot-preserved
 loop-slot-preserved c =
-    let t = c.args.self.now in
-    let l = length-take c.args.k t.memory.now in
-    slot_raised t.memory.now c.loop-slot.slot-items c.args.k c.loop-slot.slot-index (omega arith) c.loop-slot.invariant (omega arith)
-
-pub invariant_of-self-clause-whole : goal.invariant_of-self-clause-whole
-invariant_of-self-clause-whole c =
-    let t = c.args.self.now in
-    let l = length-take c.args.k t.memory.now in
-    raised_whole t.memory.now c.loop-slot.slot-items c.args.k c.loop-slot.slot-index (omega arith) c.loop-slot.invariant (omega arith) t.whole
+    let i = c.loop-slot.slot-index in
+    let items = c.loop-slot.slot-items in
+    let slot = get_or items i [] in
+    let long : length slot ≡ 36 = search rules in
+    map-set frame_in items i _ ∙ ap (set (map frame_in items) i) (raised_in slot (omega arith))
+    ∙ map_over_more raised _ (map frame_in items) i (frame_in slot) (simp length-map (omega arith)) c.loop-slot.invariant (sym (get_or-map frame_in items i [] _ (omega arith)))
 
 pub returns-clause-frames : goal.returns-clause-frames
 returns-clause-frames c =
     let t = c.args.self.now in
-    let l = length-take c.args.k t.memory.now in
-    frames_overtaken t.memory.now c.loop-slot.slot-items c.args.k c.loop-slot.slot-index (omega arith) c.loop-slot.invariant (omega arith) t.whole t.used (omega arith) (omega arith)
+    let k = c.args.k in
+    let ws = map frame_in t.memory.now in
+    let all : map frame_in c.loop-slot.slot-items ≡ map raised (take k ws) = grind (arith, take_all, drop_all, take-map, append-nil, length-map) in
+    let is : map frame_in (c.loop-slot.slot-items ++ drop k t.memory.now) ≡ map raised (take k ws) ++ drop k ws = simp (map-append, drop-map, all) in
+    sym (take-map frame_in _ _) ∙ ap (take t.used) is ∙ frames_raised k t.used ws (omega arith) ∙ ap (overtaken k) (take-map frame_in _ _)

@@ -1,7 +1,9 @@
 use Rattle.std.proofs.Common.{◌≡◌, ◌++◌, map, take, drop}
-use Rattle.shelf.proofs.SlotLaws.{raised_slot}
+use Rattle.air.specs.Waiting.{raised}
+use Rattle.shelf.specs.Slots.{frame_in}
 use Rattle.shelf.proofs.slots.Slots.raise_counts.Given as goal
 
+-- the frames of the slots that the loop has passed are raised, the others are as they were
 abbrev pub invariant-loop-slot : goal.invariant-loop-slot
 invariant-loop-slot l =
-    l.slot-items ≡ map raised_slot (take l.slot-index l.initial.slot-items) ++ drop l.slot-index l.initial.slot-items
+    map frame_in l.slot-items ≡ map raised (take l.slot-index (map frame_in l.initial.slot-items)) ++ drop l.slot-index (map frame_in l.initial.slot-items)

@@ -1,13 +1,10 @@
-use Rattle.std.proofs.Common.{arith}
-use Rattle.shelf.proofs.SlotLaws.{frames_closed, turned_whole}
+use Rattle.std.proofs.Common.{map, ap, ◌∙◌, arith}
+use Rattle.air.proofs.Places.{map-without}
+use Rattle.shelf.specs.Slots.{frame_in}
+use Rattle.shelf.proofs.SlotLaws.{closed_up}
 use Rattle.shelf.proofs.slots.Slots.remove.Goals as goal
-
-pub invariant_of-self-clause-whole : goal.invariant_of-self-clause-whole
-invariant_of-self-clause-whole c =
-    let t = c.args.self.now in
-    turned_whole c.args.k t.used t.memory.now c.rotate_left.new.self c.requires (omega arith) c.rotate_left.ensures.after t.whole
 
 pub returns-clause-frames : goal.returns-clause-frames
 returns-clause-frames c =
     let t = c.args.self.now in
-    frames_closed c.args.k t.used t.memory.now c.rotate_left.new.self c.requires (omega arith) c.rotate_left.ensures.after t.whole
+    ap (map frame_in) (closed_up c.args.k t.used t.memory.now _ c.requires (omega arith) c.rotate_left.ensures.after) ∙ map-without frame_in _ _
