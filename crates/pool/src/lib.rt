@@ -21,8 +21,11 @@ pub const CAPACITY: usize = 16;
 pub struct Pool {
     waiting: ArrayVec<Entry, CAPACITY>,
     bound: u8,
+    /// no more frames wait than the table has room for
     ghost within: { length waiting.items ≤ 16 },
+    /// the bound is a byte
     ghost small: { bound ≤ 255 },
+    /// each waiting frame has 1 to 32 bytes, and has been overtaken at most as often as the bound allows
     ghost each: { EachFine bound (frames_in waiting.items) },
 }
 

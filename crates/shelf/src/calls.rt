@@ -1,4 +1,4 @@
-// The calls of a shelf.
+//! The calls of a shelf.
 ghost use Rattle.std.specs.Prelude.{◌≡◌};
 ghost use Rattle.air.specs.Waiting.{empty_air};
 ghost use Rattle.shelf.specs.Slots.{slot_count};
@@ -11,7 +11,7 @@ use octets::LONGEST;
 use refusal::Refusal;
 
 impl<'a> Shelf<'a> {
-    // A shelf in which no frame waits, with one slot for each whole 36 bytes of the memory, 1,000 at most, and a bound of its own.
+    /// A shelf in which no frame waits, with one slot for each whole 36 bytes of the memory, 1,000 at most, and a bound of its own.
     pub fn new(memory: &'a mut [u8], bound: u8) -> Shelf<'a>
         ensures { shelf_state result ≡ empty_air (slot_count memory.old) bound }
     {

@@ -1,4 +1,4 @@
-// What can be read off a shelf.
+//! What can be read off a shelf.
 ghost use Rattle.shelf.specs.Shelves.{shelf_sound, shelf_state};
 
 use crate::Shelf;

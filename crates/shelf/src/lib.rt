@@ -1,4 +1,4 @@
-// The shelf: an air whose frames lie in memory that the caller lends.
+//! The shelf: an air whose frames lie in memory that the caller lends.
 #![tactic(auto)]
 
 ghost use Rattle.std.specs.Prelude.{◌≤◌};
@@ -11,22 +11,22 @@ mod slots;
 
 use slots::Slots;
 
-// How many bytes of memory a frame takes: its length, its count, two bytes that are not used, and room for 32 bytes.
+/// How many bytes of memory a frame takes: its length, its count, two bytes that are not used, and room for 32 bytes.
 pub const SLOT: usize = 36;
 
-// No shelf has room for more frames than this, however long its memory is.
+/// No shelf has room for more frames than this, however long its memory is.
 pub const MOST: usize = 1_000;
 
-// Slots in lent memory, which hold the waiting frames, and a bound.
+/// Slots in lent memory, which hold the waiting frames, and a bound.
 #[derive(Drop)]
 pub struct Shelf<'a> {
     slots: Slots<'a>,
     bound: u8,
-    // the bound is a byte
+    /// the bound is a byte
     ghost small: { bound ≤ 255 },
-    // each waiting frame has 1 to 32 bytes, and has been overtaken at most as often as the bound allows
+    /// each waiting frame has 1 to 32 bytes, and has been overtaken at most as often as the bound allows
     ghost each: { EachFine bound (frames_in slots.used slots.memory.now) },
 }
 
-// What a shelf takes of memory besides what is lent, in bytes.
+/// What a shelf takes of memory besides what is lent, in bytes.
 const _: () = prove!(size_of::<Shelf>() == 32);

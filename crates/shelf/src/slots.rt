@@ -1,4 +1,4 @@
-// Lent memory, in slots for a frame each.
+//! Lent memory, in slots for a frame each.
 ghost use Rattle.std.specs.Prelude.{◌≡◌, ℕ, ◌+◌, ◌<◌, ◌≤◌, [], ◌∷◌, ◌++◌, length, min, slice_index_or};
 ghost use Rattle.octets.specs.Areas.{front};
 ghost use Rattle.air.specs.Waiting.{fresh, overtaken, without};
@@ -7,23 +7,25 @@ ghost use Rattle.shelf.specs.Slots.{frame_in};
 use crate::{MOST, SLOT};
 use octets::LONGEST;
 
-// Where the length of a frame stands in its slot, its count, and the first of its bytes.
+/// Where the length of a frame stands in its slot.
 const SIZE: usize = 0;
 
+/// Where its count stands.
 const COUNT: usize = 1;
 
+/// Where its bytes begin.
 const FRAME: usize = 4;
 
-// The first `used` slots hold the waiting frames, oldest first.
+/// The first `used` slots hold the waiting frames, oldest first.
 #[derive(Drop)]
 pub(crate) struct Slots<'a> {
     pub memory: &'a mut [[u8; SLOT]],
     pub used: usize,
-    // no more slots are used than there are, and no more than 1,000
+    /// no more slots are used than there are, and no more than 1,000
     ghost within: { used ≤ min (length memory.now) 1000 },
 }
 
-// Writes a frame that has just been put into a slot.
+/// Writes a frame that has just been put into a slot.
 fn write(slot: &mut [u8; SLOT], bytes: &[u8])
     requires { length bytes.now ≤ 32 }
     ensures { frame_in slot.new ≡ fresh bytes.now }
@@ -37,14 +39,14 @@ fn write(slot: &mut [u8; SLOT], bytes: &[u8])
 impl<'a> Slots<'a> {
     ghost use Rattle.shelf.specs.Shelves.{frames_of};
 
-    // How many slots there are.
+    /// How many slots there are.
     pub(crate) fn capacity(&self) -> usize
         ensures { result ≡ min (length self.now.memory.now) 1000 }
     {
         self.memory.len().min(MOST)
     }
 
-    // Writes a frame that has just been put into the first slot that is not used.
+    /// Writes a frame that has just been put into the first slot that is not used.
     pub(crate) fn push(&mut self, bytes: &[u8])
         requires room { self.old.used < min (length self.old.memory.now) 1000 }
         requires few { length bytes.now ≤ 32 }
@@ -57,7 +59,7 @@ impl<'a> Slots<'a> {
         self.used += 1;
     }
 
-    // Removes the frame in slot k: those behind it close up.
+    /// Removes the frame in slot k: those behind it close up.
     pub(crate) fn remove(&mut self, k: usize)
         requires { k < self.old.used }
         ensures len { length self.new.memory.now ≡ length self.old.memory.now }
@@ -68,7 +70,7 @@ impl<'a> Slots<'a> {
         self.used -= 1;
     }
 
-    // The count of the frame in slot k.
+    /// The count of the frame in slot k.
     pub(crate) fn count(&self, k: usize) -> u8
         requires { k < self.now.used }
         ensures { result ≡ (frame_in (slice_index_or self.now.memory.now k [])).count }
@@ -76,7 +78,7 @@ impl<'a> Slots<'a> {
         self.memory[k][COUNT]
     }
 
-    // Each frame before slot k is overtaken once more.
+    /// Each frame before slot k is overtaken once more.
     pub(crate) fn raise_counts(&mut self, k: usize)
         requires at { k < self.old.used }
         requires small { (i : ℕ) → i < k → (frame_in (slice_index_or self.old.memory.now i [])).count < 255 }
@@ -89,7 +91,7 @@ impl<'a> Slots<'a> {
         }
     }
 
-    // Copies the frame in slot k into the front of the area, and answers its length.
+    /// Copies the frame in slot k into the front of the area, and answers its length.
     pub(crate) fn copy_to(&self, k: usize, area: &mut [u8; LONGEST]) -> usize
         requires { k < self.now.used }
         ensures size { result ≡ length (frame_in (slice_index_or self.now.memory.now k [])).frame }
