@@ -1,0 +1,27 @@
+//! The protocol of a link: the draft that both ends agree on, the arithmetic of numbers that start over, and what is proved of
+//! every link over its whole past.
+#![tactic(auto)]
+
+mod cycle;
+mod draft;
+mod laws;
+mod terms;
+
+pub use cycle::Cycle;
+pub use draft::Draft;
+pub use laws::{
+    like_ideal, promises, queues, records_cover, same_after_settle, same_on_any_cycle,
+    same_with_any_codec,
+};
+pub use terms::{Terms, least_cycle};
+
+/// What became of the element of a frame that was heard.
+#[derive(Clone, Copy, PartialEq, Eq, Debug)]
+pub enum Placement {
+    /// It fills this slot now.
+    Slot(usize),
+    /// Its number stands for no slot of the window, so it was dropped.
+    Outside,
+    /// The frame carried none.
+    Bare,
+}
