@@ -1,0 +1,20 @@
+//! A link's frames on the wire: bytes, for every kind of element. What is proved of every link whose frames are read
+//! back as they were written therefore holds of links whose frames are bytes.
+#![tactic(auto)]
+
+ghost use Rattle.wire.specs.Wires.{PromisesInBytes, Readable};
+
+use element::Kind;
+use frame::LONGEST;
+
+/// What a frame is written in.
+type Area = [u8; LONGEST];
+
+/// Frames in bytes can be relied on, and so a drafted link that sends them keeps the whole promise, over any two kinds of element, X
+/// hut-bound and Y mast-bound.
+pub fn promises<X: Kind, Y: Kind>()
+    ensures readable { Readable X.coding }
+    ensures promises { PromisesInBytes X.coding Y.coding }
+{
+    protocol::promises::<X, Y, Area, Area>();
+}
