@@ -1,5 +1,5 @@
-//! One reading on its way from the mast to the hut, first by itself and then with others through an air, told in plain text. What is
-//! told is computed by the library's calls.
+//! The draft of a flight, and one of its readings on the way from the mast to the hut, first by itself and then with others through an
+//! air, told in plain text. What is told is computed by the library's calls.
 #![tactic(auto)]
 
 use element::Kind;
@@ -9,6 +9,7 @@ use std::io;
 use telling::{Decimal, HUT_BOUND, Heard, MAST_BOUND, READING, Told};
 
 mod damage;
+mod draft;
 mod relay;
 
 /// The acknowledgement that the mast's frames carry.
@@ -81,6 +82,8 @@ fn tell_arrivals(rt: &impl Print, frame: Frame<Reading>, bytes: &[u8]) -> io::Re
 }
 
 fn tell(rt: &(impl Print + AllocGlobal)) -> anyhow::Result<()> {
+    let draft = draft::tell_draft(rt)?;
+    println!(rt)?;
     let reading = tell_making(rt)?;
     let frame = carrying(NUMBER, reading);
     let mut area = [0; LONGEST];
@@ -93,7 +96,7 @@ fn tell(rt: &(impl Print + AllocGlobal)) -> anyhow::Result<()> {
     tell_arrivals(rt, frame, bytes)?;
     damage::tell_damage(rt, bytes)?;
     println!(rt)?;
-    relay::tell_air(rt, reading)
+    relay::tell_air(rt, &draft, reading)
 }
 
 fn main(rt: HostRuntime) -> anyhow::Result<()> {

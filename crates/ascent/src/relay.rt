@@ -4,6 +4,7 @@ use air::{Air, Gauge, most_overtaken};
 use element::reading::Reading;
 use frame::{Frame, LONGEST, hear, write};
 use pool::Pool;
+use protocol::Draft;
 use refusal::Refusal;
 use std::io;
 use telling::{HUT_BOUND, Heard};
@@ -116,18 +117,21 @@ fn tell_relay<A: Air>(rt: &impl Print, air: &mut A, reading: Reading) -> anyhow:
     Ok(())
 }
 
-/// An air, held to a bound of 1, from the first frame that is put to what is left when it is released.
-pub(crate) fn tell_air(rt: &impl Print, reading: Reading) -> anyhow::Result<()> {
-    let mut air = Tight::new(Pool::new(3), 1);
+/// The relay's air, held to the drafted bound, from the first frame that is put to what is left when it is released.
+pub(crate) fn tell_air(rt: &impl Print, draft: &Draft, reading: Reading) -> anyhow::Result<()> {
+    let drafted = u8::try_from(draft.hut_bound().bound)?;
+    let relay = Pool::new(1);
+    let own = relay.bound();
+    let mut air = Tight::new(relay, drafted);
     println!(rt;
-        "Between mast and hut lies an air: room for {} frames, overtaking bound {}.",
+        "Between mast and hut lies an air: room for {} frames, overtaking bound {}: the smaller of {drafted}, as drafted, and {own}, the relay's own.",
         air.capacity(),
         air.bound()
     )?;
     tell_relay(rt, &mut air, reading)?;
     let pool = air.release();
     println!(rt;
-        "Released, the relay's own air has {} frame waiting and its own bound again, {}.",
+        "Released, the relay's air has {} frame waiting, and its own bound, {}.",
         pool.waiting(),
         pool.bound()
     )?;
