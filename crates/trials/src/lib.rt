@@ -1,9 +1,12 @@
 //! Tests by examples: the ends of each field's range, the check against a plain sum, frames at the ends of their lengths, frames with one thing
-//! wrong, and airs one against another. The code is proved to answer what the definitions say; these hold both against values worked out by hand.
+//! wrong, airs one against another, drafts at the ends of their limits, and numbers that start over against a plain search. The code is proved
+//! to answer what the definitions say; these hold both against values worked out by hand.
 #![tactic(auto)]
 
 #[cfg(test)]
 mod airs;
+#[cfg(test)]
+mod drafts;
 
 #[cfg(test)]
 mod tests {
