@@ -10,7 +10,7 @@ use Rattle.protocol.specs.Histories.Call.{mast, hut, settle}
 use Rattle.protocol.specs.Delivery.{InStep, owed}
 use Rattle.protocol.specs.Promises.{Direction, Faithful, opened, past}
 use Rattle.protocol.specs.Laws.{Queued, out_shown, back_shown, AlwaysQueued}
-use Rattle.protocol.proofs.Promised.{whole_of, delivers}
+use Rattle.protocol.proofs.Promised.{can_settle, whole_of, delivers}
 
 module _ {A : Type 0} where
   cancel : (xs ys zs : List A) → xs ++ ys ≡ xs ++ zs → ys ≡ zs
@@ -56,7 +56,7 @@ module _ {E F V W : Type 0} {c : Direction E V} {d : Direction F W} (x : Faithfu
     where
       by : (o : Option Refusal) → settle_refusal (opened c d) (opened d c) m k ≡ o → Shown (settle m k)
       by None free =
-          let s = (delivers x y ok h).settles m k free in
+          let s = (delivers x y ok h).settles m k (can_settle c d m k free) in
           subst (ShownBy (settle m k) (past c d h) (past c d (settle m k ∷ h))) (sym s.written)
           ((ap (λ p. p.out.accepted) s.rests ∙ sym (append-nil _), s.out.passed), (ap (λ p. p.back.accepted) s.rests ∙ sym (append-nil _), s.back.passed))
       by (Some r) e = rw e ((sym (append-nil _), sym (append-nil _)), (sym (append-nil _), sym (append-nil _)))

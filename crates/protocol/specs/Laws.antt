@@ -6,11 +6,11 @@ use Rattle.frame.specs.declared.Frame.{Frame}
 use Rattle.protocol.specs.Windows.{endless}
 use Rattle.protocol.specs.Drafts.{Drafted, longest_cycle}
 use Rattle.protocol.specs.Machine.{Setting, Stream, as_they_are}
-use Rattle.protocol.specs.Histories.{Log, Past, Call, Answer, answers, after, settle_refusal, accepted_by, passed_by}
+use Rattle.protocol.specs.Histories.{Log, Past, Call, Answer, answers, after, accepted_by, passed_by}
 use Rattle.protocol.specs.Histories.Call.{mast, hut, settle}
 use Rattle.protocol.specs.Histories.Answer.{to_mast, to_hut, settled_lists}
 use Rattle.protocol.specs.Delivery.{owed}
-use Rattle.protocol.specs.Promises.{Direction, Faithful, opened, past}
+use Rattle.protocol.specs.Promises.{Direction, Faithful, CanSettle, opened, past}
 
 -- a direction of an ideal link: its numbers never start over, and its frames travel as they are
 abbrev pub ideal : {E V : Type 0} → Direction E V → Setting E (Frame E)
@@ -90,7 +90,7 @@ abbrev pub SameAfterSettle : Type 0 → Type 0 → Type 0 → Type 0 → Type 0
 SameAfterSettle E F V W =
     (c : Direction E V) (d : Direction F W) → Faithful c → Faithful d → Drafted c.terms d.terms → (g h : List (Call E F)) →
     (past c d g).out.accepted ≡ (past c d h).out.accepted → (past c d g).back.accepted ≡ (past c d h).back.accepted →
-    (i j k l : ℕ) → settle_refusal (opened c d) (opened d c) i j ≡ None → settle_refusal (opened c d) (opened d c) k l ≡ None →
+    (i j k l : ℕ) → CanSettle c d i j → CanSettle c d k l →
     past c d (settle i j ∷ g) ≡ past c d (settle k l ∷ h)
 
 -- how many slots are filled

@@ -1,5 +1,5 @@
 -- What a link promises that is drafted within the limits, however its frames are written.
-use Rattle.std.specs.Prelude.{◌≡◌, ℕ, ◌+◌, ◌%◌, ◌<◌, ◌≤◌, ◌↔◌, min, Bool, true, List, [], length, replicate, None, Ok}
+use Rattle.std.specs.Prelude.{◌≡◌, ℕ, ◌+◌, ◌*◌, ◌%◌, ◌<◌, ◌≤◌, ◌↔◌, min, Bool, true, List, [], length, replicate, None, Ok}
 use Rattle.frame.specs.declared.Cycles.{Cycles}
 use Rattle.frame.specs.declared.Frame.{Frame}
 use Rattle.frame.specs.declared.Frame.TheVariants.{Bare, Laden}
@@ -7,7 +7,7 @@ use Rattle.protocol.specs.declared.terms.Terms.{Terms}
 use Rattle.protocol.specs.Windows.{cyclic}
 use Rattle.protocol.specs.Drafts.{Drafted, least_cycle, longest_cycle}
 use Rattle.protocol.specs.Machine.{Codec, Setting, Stream, State}
-use Rattle.protocol.specs.Histories.{Log, Past, Call, settle, settled_lists, calls, answers, after, settle_refusal}
+use Rattle.protocol.specs.Histories.{Log, Past, Call, settle, settled_lists, calls, answers, after}
 use Rattle.protocol.specs.Delivery.{InStep, Delivers, StreamSettled, owed}
 
 -- one direction of a link: which values are elements of its kind, how its frames are written on given cycles, its terms, and how many
@@ -81,6 +81,13 @@ module _ {E F V W : Type 0} (c : Direction E V) (d : Direction F W) where
     misread = 0;
   }
 
+  -- settle can be done with lists of m and h places: each has two windows of the stream that ends there, and each air has room for a frame
+  pub record CanSettle (m h : ℕ) : Type 0 where
+    pub mast_list : 2 * d.terms.window ≤ m
+    pub hut_list : 2 * c.terms.window ≤ h
+    pub room : 1 ≤ c.capacity
+    pub back_room : 1 ≤ d.capacity
+
   -- settle, called after the past p with lists of m and h places: it settles both streams, each list gets exactly what its end was owed,
   -- and the link is at rest, with no trace of what became of its frames before. The others follow from this last
   pub record Settles (p : Past E F V W) (m h : ℕ) : Type 0 where
@@ -89,12 +96,12 @@ module _ {E F V W : Type 0} (c : Direction E V) (d : Direction F W) where
     pub written : answers (opened c d) (opened d c) (settle m h) p ≡ settled_lists (owed p.back) (owed p.out)
     pub rests : calls (opened c d) (opened d c) (settle m h) p ≡ at_rest p.out.accepted p.back.accepted
 
-  -- a link with the past p delivers: each stream does, a settle that is not refused settles both, and no call was ever refused for the
+  -- a link with the past p delivers: each stream does, a settle that can be done settles both, and no call was ever refused for the
   -- bytes of a frame
   pub record LinkDelivers (p : Past E F V W) : Type 0 where
     pub out : Delivers c.terms.window p.state.out p.out
     pub back : Delivers d.terms.window p.state.back p.back
-    pub settles : (m h : ℕ) → settle_refusal (opened c d) (opened d c) m h ≡ None → Settles p m h
+    pub settles : (m h : ℕ) → CanSettle m h → Settles p m h
     pub understood : p.misread ≡ 0
 
   -- a limit on the cycle of one stream is exact; stream and log pick that stream out of a past. The stream is in step after every history

@@ -1,6 +1,6 @@
 -- The two halves of a stream: the sender's window and the receiver's. What an acknowledgement releases, which slot a number stands
 -- for, and how the slots move on. One text for every numbering of frames.
-use Rattle.std.specs.Prelude.{ℕ, suc, ◌+◌, ◌-◌, ◌%◌, ◌^◌, cond, List, [], ◌∷◌, ◌++◌, length, drop, set, Some, None, Option, nat_le, nat_lt}
+use Rattle.std.specs.Prelude.{◌≡◌, ℕ, suc, ◌+◌, ◌-◌, ◌%◌, ◌^◌, cond, List, [], ◌∷◌, ◌++◌, length, drop, set, Some, None, Option, ◌<◌, ◌≤◌, nat_le, nat_lt}
 use Rattle.frame.specs.declared.Frame.{Frame}
 use Rattle.frame.specs.declared.Frame.TheVariants.{Bare, Laden}
 use Rattle.protocol.specs.declared.Placement.{Placement}
@@ -32,6 +32,23 @@ slot_for numbers base window number = let d = numbers.distance base number in co
 abbrev pub place_at : Option ℕ → Placement
 place_at None = Outside
 place_at (Some d) = Slot d
+
+-- d is how far number lies after first: the one distance shorter than a cycle of m that leads there
+pub record LiesAfter (m first number d : ℕ) : Type 0 where
+  pub below : d < m
+  pub leads : (first + d) % m ≡ number % m
+
+-- so many elements are released of those held, the first of which has the number low: as many as lead to the acknowledgement, if so
+-- many are held; else none
+pub record Releases (m low held ack released : ℕ) : Type 0 where
+  pub all : (d : ℕ) → LiesAfter m low ack d → d ≤ held → released ≡ d
+  pub none : (d : ℕ) → LiesAfter m low ack d → held < d → released ≡ 0
+
+-- an element with this number goes into the slot of the window that stands for it, where slot d stands for base + d; else nowhere
+abbrev pub GoesTo : (m base window number : ℕ) → Placement → Type 0
+GoesTo m base window number (Slot d) = LiesAfter m base number d × (d < window)
+GoesTo m base window number Outside = (d : ℕ) → LiesAfter m base number d → window ≤ d
+GoesTo m base window number BareFrame = ⊥
 
 -- the sender of a stream: the elements that it holds until they are acknowledged, and the number of the first
 pub record Sender (E : Type 0) : Type 0 where

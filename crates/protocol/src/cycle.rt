@@ -1,6 +1,6 @@
 //! Numbers that start over.
 ghost use Rattle.std.specs.Prelude.{◌≡◌, ◌≤◌, None, Some, cond, ◌==◌, option_map};
-ghost use Rattle.protocol.specs.Windows.{cyclic, place_at, released, slot_for};
+ghost use Rattle.protocol.specs.Windows.{GoesTo, LiesAfter, Releases, cyclic, place_at, released, slot_for};
 
 use crate::Placement;
 
@@ -31,8 +31,10 @@ impl Cycle {
     }
 
     /// How many places a second number lies after a first.
+    #[tactic(auto, using(crate::proofs::Numbers::lies_after))]
     pub fn distance(self, first: u16, second: u16) -> u16
-        ensures { result ≡ (cyclic self.length).distance first second }
+        ensures value { result ≡ (cyclic self.length).distance first second }
+        ensures lies { LiesAfter self.length first second result }
     {
         let back = self.length - first % self.length;
         ((u32::from(second) + u32::from(back)) % u32::from(self.length)) as u16
@@ -40,16 +42,20 @@ impl Cycle {
 
     /// How many of so many held elements, the first of which has the number `low`, an acknowledgement releases: as many as it lies after
     /// `low`, if that many are held, and none otherwise.
+    #[tactic(auto, using(crate::proofs::Numbers::releases_all, crate::proofs::Numbers::releases_none))]
     pub fn released(self, low: u16, held: usize, ack: u16) -> usize
-        ensures { result ≡ released (cyclic self.length) low held ack }
+        ensures value { result ≡ released (cyclic self.length) low held ack }
+        ensures law { Releases self.length low held ack result }
     {
         let d = usize::from(self.distance(low, ack));
         if d <= held { d } else { 0 }
     }
 
     /// What becomes of an element with this number at a receiver with so many slots, the first of which has the number `base`.
+    #[tactic(auto, using(crate::proofs::Numbers::goes_nowhere))]
     pub fn place(self, base: u16, window: usize, number: u16) -> Placement
-        ensures { result ≡ place_at (slot_for (cyclic self.length) base window number) }
+        ensures value { result ≡ place_at (slot_for (cyclic self.length) base window number) }
+        ensures law { GoesTo self.length base window number result }
     {
         let d = usize::from(self.distance(base, number));
         if d < window {

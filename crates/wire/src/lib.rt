@@ -7,14 +7,11 @@ ghost use Rattle.wire.specs.Wires.{PromisesInBytes, Readable};
 use element::Kind;
 use frame::LONGEST;
 
-/// What a frame is written in.
-type Area = [u8; LONGEST];
-
 /// Frames in bytes can be relied on, and so a drafted link that sends them keeps the whole promise, over any two kinds of element, X
 /// hut-bound and Y mast-bound.
 pub fn promises<X: Kind, Y: Kind>()
     ensures readable { Readable X.coding }
     ensures promises { PromisesInBytes X.coding Y.coding }
 {
-    protocol::promises::<X, Y, Area, Area>();
+    protocol::promises::<X, Y, [u8; LONGEST], [u8; LONGEST]>();
 }
