@@ -12,6 +12,11 @@ use Rattle.frame.specs.declared.Side.{Side}
 use Rattle.frame.specs.declared.Side.TheVariants.{Mast, Hut}
 use Rattle.frame.specs.declared.header.Header.{Header}
 
+-- the side at the other end
+abbrev pub other_side : Side → Side
+other_side Mast = Hut
+other_side Hut = Mast
+
 -- the byte that names a side as the sender
 abbrev pub sender_byte : Side → ℕ
 sender_byte Mast = 1

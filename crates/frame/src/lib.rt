@@ -4,7 +4,7 @@
 #![tactic(auto)]
 
 ghost use Rattle.std.specs.Prelude.{◌≡◌};
-ghost use Rattle.frame.specs.Formats.{past_at, past_cycle};
+ghost use Rattle.frame.specs.Formats.{other_side, past_at, past_cycle};
 ghost use Rattle.refusal.specs.Refusals.{unless};
 
 use refusal::Refusal;
@@ -22,6 +22,18 @@ pub use writer::write;
 pub enum Side {
     Mast,
     Hut,
+}
+
+impl Side {
+    /// The side at the other end of the link.
+    pub fn other(self) -> Side
+        ensures { result ≡ other_side self }
+    {
+        match self {
+            Side::Mast => Side::Hut,
+            Side::Hut => Side::Mast,
+        }
+    }
 }
 
 /// The cycles that a frame's two numbers are taken from. The numbers of a cycle are those below it.

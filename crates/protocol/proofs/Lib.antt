@@ -16,6 +16,7 @@ mod Promised
 mod Late
 mod Needed
 mod Exactness
+mod Counted
 mod Queued
 mod Still
 mod Settle

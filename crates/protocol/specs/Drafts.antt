@@ -3,6 +3,10 @@ use Rattle.std.specs.Prelude.{ℕ, ◌+◌, ◌*◌, ◌≤◌, max, Bool, cond,
 use Rattle.std.specs.Option.{option_or}
 use Rattle.refusal.specs.declared.Refusal.{Refusal}
 use Rattle.refusal.specs.declared.Refusal.TheVariants.{WindowOutOfLimits, BoundOutOfLimits, CycleOutOfLimits}
+use Rattle.frame.specs.Formats.{other_side}
+use Rattle.frame.specs.declared.Format.{Format}
+use Rattle.frame.specs.declared.Side.{Side}
+use Rattle.frame.specs.declared.Side.TheVariants.{Mast, Hut}
 use Rattle.protocol.specs.declared.terms.Terms.{Terms}
 
 -- the least cycle of a stream with this window and this bound, where the other stream has the bound other. Two windows and the bound
@@ -27,6 +31,18 @@ pub record InLimits (t : Terms) (other : ℕ) : Type 0 where
 pub record Drafted (t u : Terms) : Type 0 where
   pub out : InLimits t u.bound
   pub back : InLimits u t.bound
+
+-- the terms of the stream that a side sends
+abbrev pub sent_by : Side → (hut_bound mast_bound : Terms) → Terms
+sent_by Mast t u = t
+sent_by Hut t u = u
+
+-- the format of the frames that a side sends: numbered on the cycle of the stream that it sends, with acknowledgements of the other
+abbrev pub format_of : Side → (hut_bound mast_bound : Terms) → Format
+format_of side t u = record {
+  sender = side;
+  cycles = record { ack = (sent_by (other_side side) t u).cycle; number = (sent_by side t u).cycle };
+}
 
 -- a window is within its limits
 abbrev pub window_fits : Terms → Bool

@@ -1,9 +1,10 @@
 -- Laws across whole runs of a link: it does the same on any cycles that are long enough, however its frames are written, and, after a
--- settle, whatever its airs did; what its records tell covers what it owes; and each of its streams is a queue.
-use Rattle.std.specs.Prelude.{◌≡◌, ℕ, ◌+◌, ◌*◌, ◌≤◌, min, List, [], ◌∷◌, ◌++◌, length, Some, None, Option}
+-- settle, whatever its airs did; what its records tell covers what it owes, which can be counted from its ends; and each of its streams
+-- is a queue.
+use Rattle.std.specs.Prelude.{◌≡◌, ℕ, ◌+◌, ◌*◌, ◌≤◌, min, ◌==◌, ◌&&◌, nat_lt, cond, List, [], ◌∷◌, ◌++◌, length, Some, None, Option}
 use Rattle.air.specs.Waiting.{Waiting}
 use Rattle.frame.specs.declared.Frame.{Frame}
-use Rattle.protocol.specs.Windows.{endless}
+use Rattle.protocol.specs.Windows.{Receiver, cyclic, endless}
 use Rattle.protocol.specs.Drafts.{Drafted, longest_cycle}
 use Rattle.protocol.specs.Machine.{Setting, Stream, as_they_are}
 use Rattle.protocol.specs.Histories.{Log, Past, Call, Answer, answers, after, accepted_by, passed_by}
@@ -111,6 +112,22 @@ abbrev pub AlwaysCovered : Type 0 → Type 0 → Type 0 → Type 0 → Type 0
 AlwaysCovered E F V W =
     (c : Direction E V) (d : Direction F W) → Faithful c → Faithful d → Drafted c.terms d.terms → (h : List (Call E F)) →
     Covered c.terms.window (past c d h).state.out (past c d h).out × Covered d.terms.window (past c d h).state.back (past c d h).back
+
+-- how many elements a receiver is behind a sender whose next number this is, on a cycle of m: as many as that lies after its base. Where
+-- the two numbers are the same, it is a whole cycle behind if a slot is filled, and otherwise not at all
+abbrev pub behind : {E : Type 0} → (m next : ℕ) → Receiver E → ℕ
+behind m next r = let d = (cyclic m).distance r.base next in cond (d == 0 && nat_lt 0 (placed_in r.slots)) m d
+
+-- how many elements a stream owes, counted from its two ends on a cycle of m
+abbrev pub count_owed : {E : Type 0} → (m : ℕ) → Stream E → ℕ
+count_owed m s = behind m ((cyclic m).after s.sender.low (length s.sender.held)) s.receiver
+
+-- that is how many elements each stream owes, after every history
+abbrev pub AlwaysCounted : Type 0 → Type 0 → Type 0 → Type 0 → Type 0
+AlwaysCounted E F V W =
+    (c : Direction E V) (d : Direction F W) → Faithful c → Faithful d → Drafted c.terms d.terms → (h : List (Call E F)) →
+    (count_owed c.terms.cycle (past c d h).state.out ≡ length (owed (past c d h).out))
+    × (count_owed d.terms.cycle (past c d h).state.back ≡ length (owed (past c d h).back))
 
 -- what a call and its answer show to be accepted and passed of the stream from mast to hut
 abbrev pub out_shown : {E F : Type 0} → Call E F → Answer E F → Log E

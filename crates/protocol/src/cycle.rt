@@ -23,6 +23,13 @@ impl Cycle {
         }
     }
 
+    /// How many numbers there are.
+    pub fn length(self) -> u16
+        ensures { result ≡ self.length }
+    {
+        self.length
+    }
+
     /// The number that lies so many places after `number`.
     pub fn after(self, number: u16, places: u16) -> u16
         ensures { result ≡ (cyclic self.length).after number places }

@@ -1,10 +1,12 @@
 //! The draft: settings of both streams that are within the limits.
 ghost use Rattle.std.specs.Prelude.{◌≡◌, ◌↔◌, IfOk, IsOk};
 ghost use Rattle.std.specs.Result.{result_err};
-ghost use Rattle.protocol.specs.Drafts.{Drafted, cycle_fits, draft_refusal, refused_unless, window_fits};
+ghost use Rattle.protocol.specs.Drafts.{Drafted, cycle_fits, draft_refusal, format_of, refused_unless, sent_by, window_fits};
 ghost use Rattle.refusal.specs.Refusals.{unless};
 
+use crate::Cycle;
 use crate::terms::{Terms, least_cycle};
+use frame::{Cycles, Format, Side};
 use refusal::Refusal;
 
 /// The most elements that a window may hold.
@@ -87,5 +89,35 @@ impl Draft {
         ensures { result ≡ self.now.mast_bound }
     {
         self.mast_bound
+    }
+
+    /// The settings of the stream that a side sends.
+    pub fn sent_by(&self, side: Side) -> Terms
+        ensures { result ≡ sent_by side self.now.hut_bound self.now.mast_bound }
+    {
+        match side {
+            Side::Mast => self.hut_bound,
+            Side::Hut => self.mast_bound,
+        }
+    }
+
+    /// The numbers of the stream that a side sends.
+    pub fn cycle(&self, sender: Side) -> Cycle
+        ensures { result.length ≡ (sent_by sender self.now.hut_bound self.now.mast_bound).cycle }
+    {
+        Cycle::new(self.sent_by(sender).cycle as u16).unwrap()
+    }
+
+    /// What the frames that a side sends are held against, whether they are written or read.
+    pub fn format(&self, sender: Side) -> Format
+        ensures { result ≡ format_of sender self.now.hut_bound self.now.mast_bound }
+    {
+        Format {
+            sender,
+            cycles: Cycles {
+                ack: self.sent_by(sender.other()).cycle as u16,
+                number: self.sent_by(sender).cycle as u16,
+            },
+        }
     }
 }

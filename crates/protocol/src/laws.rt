@@ -1,7 +1,8 @@
 //! What is proved of every link: for every two kinds of element E and F, of which E goes to the hut, and every way to write their frames
 //! that writes a frame alike on all cycles and reads back what it wrote, those with an E as a V and those with an F as a W. Each function
 //! states its theorem in its contract.
-ghost use Rattle.protocol.specs.Laws.{SameAfterSettle, AlwaysCovered, AlwaysQueued, SameWithAnyCodec, SameOnAnyCycle, LikeIdeal};
+ghost use Rattle.protocol.specs.Laws.{AlwaysCovered, AlwaysCounted, AlwaysQueued};
+ghost use Rattle.protocol.specs.Laws.{LikeIdeal, SameAfterSettle, SameOnAnyCycle, SameWithAnyCodec};
 ghost use Rattle.protocol.specs.Promises.{AlwaysPromises};
 
 /// A link delivers: what was passed is a beginning of what was accepted, at most two windows behind; each element between is held or
@@ -34,6 +35,11 @@ pub fn same_after_settle<E, F, V, W>()
 /// The records of a link's two ends cover what is owed.
 pub fn records_cover<E, F, V, W>()
     ensures { AlwaysCovered E F V W }
+{}
+
+/// How much each stream owes can be counted from what its ends hold.
+pub fn counts<E, F, V, W>()
+    ensures { AlwaysCounted E F V W }
 {}
 
 /// Each stream is a first-in first-out queue of two windows.

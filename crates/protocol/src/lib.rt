@@ -10,7 +10,7 @@ mod terms;
 pub use cycle::Cycle;
 pub use draft::Draft;
 pub use laws::{
-    like_ideal, promises, queues, records_cover, same_after_settle, same_on_any_cycle,
+    counts, like_ideal, promises, queues, records_cover, same_after_settle, same_on_any_cycle,
     same_with_any_codec,
 };
 pub use terms::{Terms, least_cycle};

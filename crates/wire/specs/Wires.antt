@@ -1,5 +1,5 @@
 -- A link whose frames are bytes.
-use Rattle.std.specs.Prelude.{ℕ, Bool, List, is_none}
+use Rattle.std.specs.Prelude.{◌≡◌, ℕ, Bool, List, length, is_none}
 use Rattle.element.specs.Kinds.{Coding, fault_of}
 use Rattle.refusal.specs.Refusals.{unless}
 use Rattle.frame.specs.Reads.{hear_from}
@@ -11,7 +11,10 @@ use Rattle.frame.specs.declared.Side.TheVariants.{Mast, Hut}
 use Rattle.protocol.specs.declared.terms.Terms.{Terms}
 use Rattle.protocol.specs.Drafts.{Drafted}
 use Rattle.protocol.specs.Machine.{Codec, State}
-use Rattle.protocol.specs.Promises.{Direction, Faithful, Promise}
+use Rattle.protocol.specs.Delivery.{owed}
+use Rattle.protocol.specs.Histories.{Call}
+use Rattle.protocol.specs.Laws.{count_owed}
+use Rattle.protocol.specs.Promises.{Direction, Faithful, Promise, past}
 
 -- how a side's frames with elements of a kind are written as bytes and heard, on given cycles
 abbrev pub in_bytes : {K : Type 0} → Coding K → Side → Cycles → Codec K (List ℕ)
@@ -37,3 +40,10 @@ abbrev pub PromisesInBytes : {X Y : Type 0} → Coding X → Coding Y → Type 0
 PromisesInBytes {X} {Y} kind back_kind =
     (t u : Terms) → Drafted t u → (capacity back_capacity own_bound back_own_bound : ℕ) → (s : State X Y (List ℕ) (List ℕ)) →
     Promise (direction kind Mast t capacity own_bound) (direction back_kind Hut u back_capacity back_own_bound) s
+
+-- and what each of its streams owes can be counted from what its ends keep, after every history
+abbrev pub CountsInBytes : {X Y : Type 0} → Coding X → Coding Y → Type 0
+CountsInBytes {X} {Y} kind back_kind =
+    (t u : Terms) → Drafted t u → (capacity back_capacity own_bound back_own_bound : ℕ) → (h : List (Call X Y)) →
+    let p = past (direction kind Mast t capacity own_bound) (direction back_kind Hut u back_capacity back_own_bound) h in
+    (count_owed t.cycle p.state.out ≡ length (owed p.out)) × (count_owed u.cycle p.state.back ≡ length (owed p.back))

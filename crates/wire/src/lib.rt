@@ -2,7 +2,7 @@
 //! back as they were written therefore holds of links whose frames are bytes.
 #![tactic(auto)]
 
-ghost use Rattle.wire.specs.Wires.{PromisesInBytes, Readable};
+ghost use Rattle.wire.specs.Wires.{CountsInBytes, PromisesInBytes, Readable};
 
 use element::Kind;
 use frame::LONGEST;
@@ -12,6 +12,8 @@ use frame::LONGEST;
 pub fn promises<X: Kind, Y: Kind>()
     ensures readable { Readable X.coding }
     ensures promises { PromisesInBytes X.coding Y.coding }
+    ensures counts { CountsInBytes X.coding Y.coding }
 {
     protocol::promises::<X, Y, [u8; LONGEST], [u8; LONGEST]>();
+    protocol::counts::<X, Y, [u8; LONGEST], [u8; LONGEST]>();
 }
