@@ -1,0 +1,4 @@
+pub mod Marks
+pub mod Receivers
+pub mod Seen
+pub mod Senders
