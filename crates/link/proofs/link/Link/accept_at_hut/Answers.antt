@@ -1,0 +1,6 @@
+use Rattle.std.proofs.Common.{rules}
+use Rattle.link.proofs.Turns.{hut_acts_alone}
+use Rattle.link.proofs.link.Link.accept_at_hut.Goals as goal
+
+pub returns : goal.returns
+returns g c = search (rules, hut_acts_alone)
