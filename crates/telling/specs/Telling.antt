@@ -1,7 +1,9 @@
--- What is printed of numbers, of readings and of what a listener made of bytes.
+-- What is printed of numbers, of readings, of orders and of what a listener made of bytes.
 use Rattle.std.specs.Prelude.{ℕ, ℤ, pos, negsuc, ◌/◌, ◌%◌, List, [], ◌++◌, Some, None, Ok, Err, Option, Result, codes, decimal, unsigned_abs}
 use Rattle.refusal.specs.Refusals.{shown_of}
 use Rattle.refusal.specs.declared.Refusal.{Refusal}
+use Rattle.element.specs.declared.order.Order.{Order}
+use Rattle.element.specs.declared.order.Order.TheVariants.{Tune, Point, Note}
 use Rattle.element.specs.declared.reading.Reading.{Reading}
 use Rattle.frame.specs.declared.Frame.{Frame}
 use Rattle.frame.specs.declared.Frame.TheVariants.{Bare, Laden}
@@ -33,6 +35,15 @@ reading_words r = tenths (pos r.time) ++ (codes " s, " ++ (tenths r.height ++ (c
 
 abbrev pub reading_text : Told Reading → Option (List ℕ)
 reading_text t = Some (reading_words t.0)
+
+-- an order: what is to be done, and its numbers with their unit
+abbrev pub order_words : Order → List ℕ
+order_words (Tune khz) = codes "tune to " ++ (decimal khz ++ codes " kHz")
+order_words (Point bearing elevation) = codes "point to bearing " ++ (hundredths (pos bearing) ++ (codes " and elevation " ++ (hundredths (pos elevation) ++ codes " degrees")))
+order_words (Note number) = codes "note " ++ decimal number
+
+abbrev pub order_text : Told Order → Option (List ℕ)
+order_text t = Some (order_words t.0)
 
 -- a frame: its acknowledgement, and its reading under its number where it is laden
 abbrev pub frame_words : Frame Reading → List ℕ

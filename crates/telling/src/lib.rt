@@ -1,12 +1,13 @@
-//! How a flight is told to people: numbers, readings and what a listener makes of bytes, in plain text, and the cycles of the flight
-//! that is told.
+//! How a flight is told to people: numbers, readings, orders and what a listener makes of bytes, in plain text, and the cycles of the
+//! flight that is told.
 #![tactic(auto)]
 
 ghost use Rattle.std.specs.Prelude.{◌≡◌};
 ghost use Rattle.element.specs.Readings.{reading_coding};
 ghost use Rattle.frame.specs.Reads.{hear_from};
-ghost use Rattle.telling.specs.Telling.{decimal_text, frame_text, heard_text, reading_text, sign_text};
+ghost use Rattle.telling.specs.Telling.{decimal_text, frame_text, heard_text, order_text, reading_text, sign_text};
 
+use element::order::Order;
 use element::reading::Reading;
 use frame::{Cycles, Format, Frame, Side, hear};
 use refusal::Refusal;
@@ -71,7 +72,7 @@ impl fmt::Display for Decimal {
     }
 }
 
-/// A value as it is told: a reading with its units, or a frame with what it carries.
+/// A value as it is told: a reading or an order with its units, or a frame with what it carries.
 #[derive(Clone, Copy, PartialEq, Eq, Debug)]
 pub struct Told<T>(pub T);
 
@@ -88,6 +89,25 @@ impl fmt::Display for Told<Reading> {
             f,
             "{time} s, {height} m, {temperature} C, {humidity} %, {pressure} hPa"
         )
+    }
+}
+
+impl fmt::Display for Told<Order> {
+    ghost output = { order_text };
+
+    fn fmt<W: fmt::Write>(&self, f: &mut fmt::Formatter<W>) -> fmt::Result {
+        match self.0 {
+            Order::Tune { khz } => write!(f, "tune to {khz} kHz"),
+            Order::Point { bearing, elevation } => {
+                let bearing = Decimal::Hundredths(i64::from(bearing));
+                let elevation = Decimal::Hundredths(i64::from(elevation));
+                write!(
+                    f,
+                    "point to bearing {bearing} and elevation {elevation} degrees"
+                )
+            }
+            Order::Note { number } => write!(f, "note {number}"),
+        }
     }
 }
 

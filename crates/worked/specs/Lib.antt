@@ -1,3 +1,4 @@
 pub mod Worked
 pub mod Links
 pub mod Verdicts
+pub mod Cases

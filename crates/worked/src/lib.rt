@@ -2,19 +2,17 @@
 #![tactic(auto)]
 
 ghost use Rattle.std.specs.Prelude.{◌≡◌, codes};
-ghost use Rattle.worked.specs.Links.{WorkedLinks};
-ghost use Rattle.worked.specs.Worked.{Worked};
+ghost use Rattle.worked.specs.Cases.{AllWorked};
 
 mod verdicts;
 
 pub use verdicts::{BLANK, Verdict, holds_only};
 
-/// The letters of the cases that are shown of the definitions, by the two theorems in this contract. In G and H the calls of a link are
-/// run through the machine, with elements of any two kinds E and F.
+/// The letters of the cases that are shown of the definitions, by the theorem in this contract. In G and H the calls of a link are run
+/// through the machine, with elements of any two kinds E and F.
 pub fn shown<E, F>() -> &'static str
     ensures letters { result.now ≡ codes "ABCDEFGHIJKL" }
-    ensures worked { Worked }
-    ensures links { WorkedLinks E F }
+    ensures cases { AllWorked E F }
 {
     "ABCDEFGHIJKL"
 }
