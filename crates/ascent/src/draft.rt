@@ -6,13 +6,13 @@ use std::io;
 use telling::{HUT_BOUND, MAST_BOUND};
 
 /// How many readings, and how many orders, may be unacknowledged.
-const WINDOW: u32 = 4;
+pub(crate) const WINDOW: u32 = 4;
 
 /// How often a frame with a reading may be overtaken.
 const READINGS_BOUND: u32 = 3;
 
 /// How often a frame with an order may be overtaken.
-const ORDERS_BOUND: u32 = 0;
+const ORDERS_BOUND: u32 = 1;
 
 /// The terms of a stream with its least cycle, where frames of the other stream may be overtaken `other` times.
 fn tell_terms(rt: &impl Print, stream: &str, bound: u32, other: u32) -> anyhow::Result<Terms> {

@@ -1,16 +1,26 @@
-//! The draft of a flight, and one of its readings on the way from the mast to the hut, first by itself and then with others through an
-//! air, told in plain text. What is told is computed by the library's calls.
+//! A flight, told in plain text: its draft; one of its readings as a frame in bytes; and then its link, from the opening through the climb
+//! and the burst to the record that it leaves. What is told is computed by the library's calls.
 #![tactic(auto)]
 
 use element::Kind;
+use element::order::Order;
 use element::reading::Reading;
 use frame::{Frame, LONGEST, hear, write};
+use link::Link;
+use pool::Pool;
 use std::io;
 use telling::{Decimal, HUT_BOUND, Heard, MAST_BOUND, READING, Told};
 
+mod burst;
+mod calls;
+mod climb;
 mod damage;
 mod draft;
-mod relay;
+mod flight;
+mod readings;
+
+/// The link of the flight: readings go to the hut, orders to the mast, each through the pool of a relay.
+type Flight = Link<Reading, Order, Pool, Pool>;
 
 /// The acknowledgement that the mast's frames carry.
 const ACK: u16 = 3;
@@ -96,7 +106,7 @@ fn tell(rt: &(impl Print + AllocGlobal)) -> anyhow::Result<()> {
     tell_arrivals(rt, frame, bytes)?;
     damage::tell_damage(rt, bytes)?;
     println!(rt)?;
-    relay::tell_air(rt, &draft, reading)
+    flight::tell_flight(rt, draft)
 }
 
 fn main(rt: HostRuntime) -> anyhow::Result<()> {

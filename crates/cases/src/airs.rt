@@ -1,4 +1,5 @@
 //! The worked case of airs.
+use crate::Flown;
 use air::{Air, Gauge, Lent};
 use octets::LONGEST;
 use pool::Pool;
@@ -32,8 +33,16 @@ fn overtaken_once<A: Air>(air: &mut A) -> bool {
         && air.count(0) == Ok(0)
 }
 
-/// Case L on each air: a pool, a shelf, and a tight air over each, where the bound 1 is the one given.
-pub(crate) fn overtaking() -> [(&'static str, bool); 4] {
+/// The airs on which case L is flown.
+pub(crate) const AIRS: [&'static str; 4] = [
+    "a pool",
+    "a shelf",
+    "a tight air over a pool",
+    "a tight air over a shelf",
+];
+
+/// Case L on each of these airs. That of the tight ones has the bound 1 from the one given.
+pub(crate) fn overtaking() -> Flown {
     let mut memory = [BLANK; 3 * SLOT];
     let mut shelf = Shelf::new(&mut memory, 1);
     let on_shelf = overtaken_once(&mut shelf);
@@ -41,12 +50,9 @@ pub(crate) fn overtaking() -> [(&'static str, bool); 4] {
     let mut below = Shelf::new(&mut memory, 9);
     let on_tight_shelf = overtaken_once(&mut Tight::new(Lent(&mut below), 1));
     [
-        ("a pool", overtaken_once(&mut Pool::new(1))),
-        ("a shelf", on_shelf),
-        (
-            "a tight air over a pool",
-            overtaken_once(&mut Tight::new(Pool::new(9), 1)),
-        ),
-        ("a tight air over a shelf", on_tight_shelf),
+        overtaken_once(&mut Pool::new(1)),
+        on_shelf,
+        overtaken_once(&mut Tight::new(Pool::new(9), 1)),
+        on_tight_shelf,
     ]
 }

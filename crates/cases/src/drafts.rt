@@ -3,7 +3,7 @@ use protocol::{Draft, Terms, least_cycle};
 use refusal::Refusal;
 
 /// The terms of a stream.
-fn terms(window: u32, bound: u32, cycle: u32) -> Terms {
+pub(crate) fn terms(window: u32, bound: u32, cycle: u32) -> Terms {
     Terms {
         window,
         bound,

@@ -5,9 +5,10 @@ ghost use Rattle.element.specs.Readings.{reading_coding};
 ghost use Rattle.element.specs.declared.order.Order.{Order};
 ghost use Rattle.element.specs.declared.reading.Reading.{Reading};
 ghost use Rattle.frame.specs.declared.Frame.{Frame};
-ghost use Rattle.protocol.specs.Laws.{SameAfterSettle, AlwaysCovered, AlwaysQueued, SameWithAnyCodec, SameOnAnyCycle, LikeIdeal};
+ghost use Rattle.protocol.specs.Laws.{AlwaysCounted, AlwaysCovered, AlwaysQueued};
+ghost use Rattle.protocol.specs.Laws.{LikeIdeal, SameAfterSettle, SameOnAnyCycle, SameWithAnyCodec};
 ghost use Rattle.protocol.specs.Promises.{AlwaysPromises};
-ghost use Rattle.wire.specs.Wires.{PromisesInBytes};
+ghost use Rattle.wire.specs.Wires.{CountsInBytes, PromisesInBytes};
 
 use element::order::Order;
 use element::reading::Reading;
@@ -21,12 +22,14 @@ type Area = [u8; LONGEST];
 /// are.
 pub(crate) fn hold()
     ensures in_bytes { PromisesInBytes reading_coding order_coding }
+    ensures counts_in_bytes { CountsInBytes reading_coding order_coding }
     ensures promises { AlwaysPromises Reading Order (List ℕ) (List ℕ) }
     ensures like_ideal { LikeIdeal Reading Order (List ℕ) (List ℕ) }
     ensures same_on_any_cycle { SameOnAnyCycle Reading Order (List ℕ) (List ℕ) (Frame Reading) (Frame Order) }
     ensures same_with_any_codec { SameWithAnyCodec Reading Order (List ℕ) (List ℕ) }
     ensures same_after_settle { SameAfterSettle Reading Order (List ℕ) (List ℕ) }
     ensures records_cover { AlwaysCovered Reading Order (List ℕ) (List ℕ) }
+    ensures counts { AlwaysCounted Reading Order (List ℕ) (List ℕ) }
     ensures queues { AlwaysQueued Reading Order (List ℕ) (List ℕ) }
 {
     wire::promises::<Reading, Order>();
@@ -36,5 +39,6 @@ pub(crate) fn hold()
     protocol::same_with_any_codec::<Reading, Order, Area, Area>();
     protocol::same_after_settle::<Reading, Order, Area, Area>();
     protocol::records_cover::<Reading, Order, Area, Area>();
+    protocol::counts::<Reading, Order, Area, Area>();
     protocol::queues::<Reading, Order, Area, Area>();
 }
