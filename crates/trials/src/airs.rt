@@ -1,25 +1,12 @@
 //! Tests of airs by examples, and of one air against another.
+use crate::checks::{check_eq, next_draw, numbered};
 use air::{Air, Gauge, Lent, clear, most_overtaken};
 use octets::LONGEST;
 use pool::Pool;
 use refusal::Refusal;
 use shelf::{SLOT, Shelf};
-use std::fmt::Debug;
 use std::test::Fail;
 use tight::Tight;
-
-/// Fails where two values differ. It takes no handle, so no helper of these tests can end the process.
-fn check_eq<T: PartialEq + Debug + Drop>(left: T, right: T) -> Result<(), Fail> {
-    if left == right {
-        return Ok(());
-    }
-    Err(Fail::new(format_args!("{left:?} is not {right:?}")))
-}
-
-/// An answer with the number of a refusal in its place.
-fn numbered<T: Drop>(answer: Result<T, Refusal>) -> Result<T, u8> {
-    answer.map_err(Refusal::number)
-}
 
 /// An empty air with room for some frames is filled, and then refuses by 6, but a wrong size by 9 first.
 fn fills_up<A: Air>(air: &mut A) -> Result<(), Fail> {
@@ -150,11 +137,6 @@ fn tight_airs_start_empty() -> Result<(), Fail> {
     check_eq(&area[0..5], b"after".as_slice())
 }
 
-/// The next number of a fixed sequence that looks random.
-fn next(draw: u32) -> u32 {
-    draw.wrapping_mul(1_664_525).wrapping_add(1_013_904_223)
-}
-
 /// What an air answers to a call of a kind and a place that a drawn number picks, and what the area then holds. A call that answers no
 /// length answers 0.
 fn called<A: Air>(air: &mut A, draw: u32) -> (Result<usize, Refusal>, [u8; LONGEST]) {
@@ -186,7 +168,7 @@ fn agree<A: Air, B: Air>(a: &mut A, b: &mut B) -> Result<(), Fail> {
     check_eq((a.capacity(), a.bound()), (b.capacity(), b.bound()))?;
     let mut draw = 2_026;
     for _ in 0..1_000 {
-        draw = next(draw);
+        draw = next_draw(draw);
         same_call(a, b, draw)?;
     }
     Ok(())

@@ -1,21 +1,38 @@
-//! Tests by examples: the ends of each field's range, the check against a plain sum, frames at the ends of their lengths, frames with one thing
-//! wrong, airs one against another, drafts at the ends of their limits, and numbers that start over against a plain search. The code is proved
-//! to answer what the definitions say; these hold both against values worked out by hand.
+//! Tests by examples: the ends of each field's range, the check against a plain sum, frames at the ends of their lengths, frames with one
+//! thing wrong, airs one against another, drafts at the ends of their limits, numbers that start over against a plain search, every call of a
+//! sender, a receiver, an end and a link, late frames at the limits of a cycle, and long flights of a link beside a plain model. The code is
+//! proved to answer what the definitions say; these hold both against values worked out by hand.
 #![tactic(auto)]
 
 #[cfg(test)]
 mod airs;
 #[cfg(test)]
+mod calls;
+#[cfg(test)]
+mod checks;
+#[cfg(test)]
 mod drafts;
+#[cfg(test)]
+mod ends;
+#[cfg(test)]
+mod flights;
+#[cfg(test)]
+mod limits;
+#[cfg(test)]
+mod links;
+#[cfg(test)]
+mod model;
+#[cfg(test)]
+mod windows;
 
 #[cfg(test)]
 mod tests {
+    use crate::checks::number_and_place;
     use element::Kind;
     use element::order::Order;
     use element::reading::Reading;
     use frame::{Cycles, Format, Frame, LONGEST, Side, hear, write};
     use octets::check_of;
-    use refusal::Refusal;
     use std::test::Fail;
 
     const CALM: Reading = Reading {
@@ -148,16 +165,6 @@ mod tests {
         assert_eq!(rt; check_of(&[]), 0xffff);
     }
 
-    /// Whether bytes were heard, or the number and the place of the refusal.
-    fn number_and_place<K: Drop>(
-        answer: Result<Frame<K>, Refusal>,
-    ) -> Result<(), (u8, Option<usize>)> {
-        match answer {
-            Ok(_) => Ok(()),
-            Err(refusal) => Err((refusal.number(), refusal.place())),
-        }
-    }
-
     /// What is heard of a frame of the hut with note 7, after one byte was set and the check mended.
     fn heard_with_byte(at: usize, byte: u8) -> Result<(), (u8, Option<usize>)> {
         let format = HUT_SENDS;
@@ -173,7 +180,7 @@ mod tests {
         }
         let check = check_of(&area[..17]).to_be_bytes();
         area[17..19].copy_from_slice(&check);
-        number_and_place(hear::<Order>(format, &area[..19]))
+        number_and_place(hear::<Order>(format, &area[..19])).map(|_| ())
     }
 
     #[test]
@@ -207,7 +214,7 @@ mod tests {
         bytes[0..7].copy_from_slice(&[0x4D, 0x48, 0x4C, 0, 1, 1, 2]);
         let check = check_of(&bytes[..n - 2]).to_be_bytes();
         bytes[n - 2..n].copy_from_slice(&check);
-        number_and_place(hear::<Order>(HUT_SENDS, &bytes[..n]))
+        number_and_place(hear::<Order>(HUT_SENDS, &bytes[..n])).map(|_| ())
     }
 
     #[test]
