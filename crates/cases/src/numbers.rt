@@ -65,14 +65,17 @@ fn placements(hut: &mut End<Order, Reading>, format: Format) -> Result<[Placemen
     ])
 }
 
-/// E at the hut.
+/// E at the hut, whose first slot is free still, so that it acknowledges 15.
 fn slots_at_hut(alloc: Global) -> Result<bool, AllocError> {
     let Ok(draft) = draft() else {
         return Ok(false);
     };
     let mut hut = End::new(alloc, &draft, Side::Hut)?;
     let expected = [Placement::Slot(3), Placement::Outside, Placement::Outside];
-    Ok(placements(&mut hut, draft.format(Side::Mast)) == Ok(expected))
+    Ok(
+        placements(&mut hut, draft.format(Side::Mast)) == Ok(expected)
+            && hut.acknowledgement() == Frame::Bare { ack: 15 },
+    )
 }
 
 /// E: a window of 4 whose first number is 15, on a cycle of 17: number 1 stands for slot 3, and 2 and 14 for none.
@@ -88,8 +91,8 @@ fn releases_on_cycle() -> bool {
     [1, 2, 14, 15].map(|ack| cycle.released(15, 3, ack)) == [3, 0, 0, 0]
 }
 
-/// How many an acknowledgement releases at a new mast, after 15 readings were acknowledged and three more accepted.
-fn released(mast: &mut End<Reading, Order>, format: Format, ack: u16) -> Result<usize, Refusal> {
+/// A new mast has 15 readings acknowledged, and accepts three more.
+fn hold_three(mast: &mut End<Reading, Order>, format: Format) -> Result<(), Refusal> {
     for next in 1..=15 {
         mast.accept(FIRST)?;
         hears(mast, format, Frame::Bare { ack: next })?;
@@ -97,7 +100,33 @@ fn released(mast: &mut End<Reading, Order>, format: Format, ack: u16) -> Result<
     for _ in 0..3 {
         mast.accept(FIRST)?;
     }
+    Ok(())
+}
+
+/// How many an acknowledgement releases then.
+fn released(mast: &mut End<Reading, Order>, format: Format, ack: u16) -> Result<usize, Refusal> {
+    hold_three(mast, format)?;
     Ok(hears(mast, format, Frame::Bare { ack })?.released)
+}
+
+/// The last of the three has number 0 then, and there is no fourth.
+fn frames_at_mast(alloc: Global) -> Result<bool, AllocError> {
+    let Ok(draft) = draft() else {
+        return Ok(false);
+    };
+    let mut mast = End::new(alloc, &draft, Side::Mast)?;
+    let held = hold_three(&mut mast, draft.format(Side::Hut));
+    let last = Frame::Laden {
+        ack: 0,
+        number: 0,
+        element: FIRST,
+    };
+    Ok(
+        held == Ok(())
+            && mast.format() == draft.format(Side::Mast)
+            && mast.frame(2) == Some(last)
+            && mast.frame(3) == None,
+    )
 }
 
 /// F at the mast, which is a new one for each acknowledgement.
@@ -116,5 +145,5 @@ fn releases_at_mast(alloc: Global) -> Result<bool, AllocError> {
 
 /// F: 3 held whose first has number 15, on a cycle of 17: acknowledgements 1, 2, 14 and 15 release 3, 0, 0 and 0.
 pub(crate) fn releases(alloc: Global) -> Result<bool, AllocError> {
-    Ok(releases_on_cycle() && releases_at_mast(alloc)?)
+    Ok(releases_on_cycle() && releases_at_mast(alloc)? && frames_at_mast(alloc)?)
 }
