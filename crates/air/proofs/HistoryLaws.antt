@@ -13,7 +13,7 @@ use Rattle.air.proofs.Kept.{Kept, kept_start, kept_put, kept_lost, kept_length, 
 
 -- what holds of every past
 abbrev Holds : Past → Type 0
-Holds p = Kept p.air.bound p.sent p.events p.serials p.air.waiting
+Holds p = Kept p.air.bound p.put_frames p.events p.serials p.air.waiting
 
 -- each call keeps what holds, whether or not it is refused
 put_keeps : (bs : Bytes) (p : Past) → Holds p → (o : Option Refusal) → Holds (after_put bs (step_unless o (joined bs p.air) p.air) p)

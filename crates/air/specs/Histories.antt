@@ -21,39 +21,40 @@ pub data Event : Type 0 where
   was_taken : ℕ → Bytes → Event
   was_repeated : ℕ → Bytes → Event
 
--- what there is to know after a history: the air, the serial numbers of the waiting frames by their places, all frames that were put, in sequence,
--- and what befell frames, newest first
+-- what there is to know after a history: the air, the serial numbers of the waiting frames by their places, all frames that were put, in
+-- sequence, and what befell frames, newest first
 pub record Past : Type 0 where
   pub air : AirState Bytes
   pub serials : List ℕ
-  pub sent : List Bytes
+  pub put_frames : List Bytes
   pub events : List Event
 
 -- the serial number of frame k; at a place where no frame waits, the one that the next put will have
 abbrev pub serial_at : ℕ → Past → ℕ
-serial_at k p = slice_index_or p.serials k (length p.sent)
+serial_at k p = slice_index_or p.serials k (length p.put_frames)
 
 -- the same past with another air
 abbrev pub with_air : AirState Bytes → Past → Past
-with_air a p = record { air = a; serials = p.serials; sent = p.sent; events = p.events }
+with_air a p = record { air = a; serials = p.serials; put_frames = p.put_frames; events = p.events }
 
--- the past after a call, by what the call returns and the air after it. A put that is not refused adds to what was sent
+-- the past after a call, by what the call returns and the air after it. A put that is not refused adds to the frames that were put
 abbrev pub after_put : Bytes → Result (Unit {0}) Refusal × AirState Bytes → Past → Past
-after_put bs (Ok done, a) p = record { air = a; serials = p.serials ++ (length p.sent ∷ []); sent = p.sent ++ (bs ∷ []); events = p.events }
+after_put bs (Ok done, a) p = record { air = a; serials = p.serials ++ (length p.put_frames ∷ []); put_frames = p.put_frames ++ (bs ∷ []); events = p.events }
 after_put bs (Err refusal, a) p = with_air a p
 
 -- a loss befalls frame k
 abbrev pub after_lose : ℕ → Result (Unit {0}) Refusal × AirState Bytes → Past → Past
-after_lose k (Ok done, a) p = record { air = a; serials = without k p.serials; sent = p.sent; events = was_lost (serial_at k p) ∷ p.events }
+after_lose k (Ok done, a) p = record { air = a; serials = without k p.serials; put_frames = p.put_frames; events = was_lost (serial_at k p) ∷ p.events }
 after_lose k (Err refusal, a) p = with_air a p
 
 -- an answer befalls frame k, of the bytes that the caller finds in the front of the area
 abbrev pub after_take : ℕ → Result ℕ Refusal × AirState Bytes × Bytes → Past → Past
-after_take k (Ok n, a, area) p = record { air = a; serials = without k p.serials; sent = p.sent; events = was_taken (serial_at k p) (take n area) ∷ p.events }
+after_take k (Ok n, a, area) p = record { air = a; serials = without k p.serials; put_frames = p.put_frames; events = was_taken (serial_at k p) (take n area) ∷ p.events }
 after_take k (Err refusal, a, area) p = with_air a p
 
+-- the same, but the frame waits still
 abbrev pub after_repeat : ℕ → Result ℕ Refusal × AirState Bytes × Bytes → Past → Past
-after_repeat k (Ok n, a, area) p = record { air = a; serials = p.serials; sent = p.sent; events = was_repeated (serial_at k p) (take n area) ∷ p.events }
+after_repeat k (Ok n, a, area) p = record { air = a; serials = p.serials; put_frames = p.put_frames; events = was_repeated (serial_at k p) (take n area) ∷ p.events }
 after_repeat k (Err refusal, a, area) p = with_air a p
 
 -- the past after any call, which does to the air what the contract of that call says
@@ -65,7 +66,7 @@ after (repeats k area) p = after_repeat k (repeat_step k p.air area) p
 
 -- the past after a history, whose newest call stands first, on an air that was made empty
 abbrev pub past : ℕ → ℕ → List Call → Past
-past capacity bound [] = record { air = empty_air capacity bound; serials = []; sent = []; events = [] }
+past capacity bound [] = record { air = empty_air capacity bound; serials = []; put_frames = []; events = [] }
 past capacity bound (c ∷ h) = after c (past capacity bound h)
 
 -- how often a serial number stands in a list
@@ -84,22 +85,22 @@ abbrev pub departures : ℕ → List Event → ℕ
 departures s [] = 0
 departures s (e ∷ es) = departs s e + departures s es
 
--- 1 where an event is an answer of a younger frame
-abbrev pub passes : ℕ → Event → ℕ
-passes s (was_lost t) = 0
-passes s (was_taken t bs) = cond (nat_lt s t) 1 0
-passes s (was_repeated t bs) = cond (nat_lt s t) 1 0
+-- 1 where a younger frame overtakes this one by an event, that is, is answered
+abbrev pub overtakes : ℕ → Event → ℕ
+overtakes s (was_lost t) = 0
+overtakes s (was_taken t bs) = cond (nat_lt s t) 1 0
+overtakes s (was_repeated t bs) = cond (nat_lt s t) 1 0
 
 -- how often a frame was overtaken: how often a younger one was answered before it departed
 abbrev pub overtakings : ℕ → List Event → ℕ
 overtakings s [] = 0
-overtakings s (e ∷ es) = cond (departures s es == 0) (passes s e) 0 + overtakings s es
+overtakings s (e ∷ es) = cond (departures s es == 0) (overtakes s e) 0 + overtakings s es
 
 -- an answer is, byte for byte, the frame that was put under that serial number
 abbrev pub Genuine : List Bytes → Event → Type 0
-Genuine sent (was_lost s) = Unit {0}
-Genuine sent (was_taken s bs) = slice_get sent s ≡ Some bs
-Genuine sent (was_repeated s bs) = slice_get sent s ≡ Some bs
+Genuine put_frames (was_lost s) = Unit {0}
+Genuine put_frames (was_taken s bs) = slice_get put_frames s ≡ Some bs
+Genuine put_frames (was_repeated s bs) = slice_get put_frames s ≡ Some bs
 
 -- the frame that an event befalls
 abbrev pub befallen : Event → ℕ
@@ -119,14 +120,15 @@ pub record Lawful (capacity bound : ℕ) (p : Past) : Type 0 where
   -- no frame is overtaken more often than the bound
   pub bounded : (s : ℕ) → overtakings s p.events ≤ bound
   -- every answered frame is, byte for byte, one that was put
-  pub genuine : AllByRecursion (Genuine p.sent) p.events
+  pub genuine : AllByRecursion (Genuine p.put_frames) p.events
   -- a frame that has departed is not answered or lost again
   pub present : Present p.events
   -- a frame that was put waits at one place, or has departed once, lost or taken; no other frame waits or departs
-  pub accounted : (s : ℕ) → occurrences s p.serials + departures s p.events ≡ cond (nat_lt s (length p.sent)) 1 0
-  -- every waiting frame has a serial number, and is, byte for byte, the frame that was put under it
+  pub accounted : (s : ℕ) → occurrences s p.serials + departures s p.events ≡ cond (nat_lt s (length p.put_frames)) 1 0
+  -- every waiting frame has a serial number
   pub matched : length p.serials ≡ length p.air.waiting
-  pub unchanged : (k : ℕ) (w : Waiting Bytes) → slice_get p.air.waiting k ≡ Some w → slice_get p.sent (serial_at k p) ≡ Some w.frame
+  -- and is, byte for byte, the frame that was put under it
+  pub unchanged : (k : ℕ) (w : Waiting Bytes) → slice_get p.air.waiting k ≡ Some w → slice_get p.put_frames (serial_at k p) ≡ Some w.frame
   -- its count tells how often it was overtaken
   pub counted : (k : ℕ) (w : Waiting Bytes) → slice_get p.air.waiting k ≡ Some w → w.count ≡ overtakings (serial_at k p) p.events
   -- frames wait in the sequence of their puts
@@ -134,7 +136,8 @@ pub record Lawful (capacity bound : ℕ) (p : Past) : Type 0 where
   -- counts never rise from an older frame to a younger one
   pub falling : (j k : ℕ) (v w : Waiting Bytes) → j ≤ k → slice_get p.air.waiting j ≡ Some v → slice_get p.air.waiting k ≡ Some w → w.count ≤ v.count
 
--- it holds after every history, whatever the capacity and the bound, and so of every air, since each call of an air is the step that `after` takes
+-- it holds after every history, whatever the capacity and the bound, and so of every air, since each call of an air is the step that
+-- `after` takes
 abbrev pub AlwaysLawful : Type 0
 AlwaysLawful = (capacity bound : ℕ) (h : List Call) → Lawful capacity bound (past capacity bound h)
 

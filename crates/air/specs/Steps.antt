@@ -21,7 +21,7 @@ Fine bound w = (1 ≤ length w.frame) × (length w.frame ≤ 32) × ((i : ℕ) �
 abbrev pub Sound : AirState Bytes → Type 0
 Sound a = (length a.waiting ≤ a.capacity) × (a.bound ≤ 255) × AllByRecursion (Fine a.bound) a.waiting
 
--- why some bytes are no frame (9): there are none, or over 32
+-- why some bytes are not put as a frame (9): no bytes, or over 32
 abbrev pub size_refusal : Bytes → Option Refusal
 size_refusal bs = cond (length bs == 0 || nat_lt 32 (length bs)) (Some SizeOutOfLimits) None
 

@@ -1,5 +1,5 @@
--- What an air means: the frames that wait in it, oldest first. Places count from 0. An air does not look into its frames, so a frame is of any
--- type here.
+-- What an air means: the frames that wait in it, oldest first. Places count from 0. An air does not look into its frames, so a frame is
+-- of any type here.
 use Rattle.std.specs.Prelude.{ℕ, zero, suc, ◌+◌, Bool, false, ◌||◌, List, [], ◌∷◌, ◌++◌, ◌==◌}
 
 -- a waiting frame, and its count: how often it has been overtaken

@@ -3,6 +3,8 @@
 //!
 //! An air means a list of waiting frames, oldest first, with a capacity and a bound; places in it count from 0. How an air keeps
 //! its frames is its own affair: callers rely on the list alone.
+//!
+//! It must know nothing of what a frame says, and of ends and links: to an air a frame is 1 to 32 bytes.
 #![tactic(auto)]
 
 ghost use Rattle.std.specs.Prelude.{◌≡◌, length};

@@ -4,7 +4,7 @@ use air::{Air, Gauge, Lent};
 use octets::LONGEST;
 use pool::Pool;
 use refusal::Refusal;
-use shelf::{SLOT, Shelf};
+use shelf::{CELL, Shelf};
 use tight::Tight;
 use worked::{BLANK, holds_only};
 
@@ -43,10 +43,10 @@ pub(crate) const AIRS: [&'static str; 4] = [
 
 /// Case L on each of these airs. That of the tight ones has the bound 1 from the one given.
 pub(crate) fn overtaking() -> Flown {
-    let mut memory = [BLANK; 3 * SLOT];
+    let mut memory = [BLANK; 3 * CELL];
     let mut shelf = Shelf::new(&mut memory, 1);
     let on_shelf = overtaken_once(&mut shelf);
-    let mut memory = [BLANK; 3 * SLOT];
+    let mut memory = [BLANK; 3 * CELL];
     let mut below = Shelf::new(&mut memory, 9);
     let on_tight_shelf = overtaken_once(&mut Tight::new(Lent(&mut below), 1));
     [

@@ -8,7 +8,7 @@ use link::{EndRecord, Hearing, Link, Owed, Record, Settled};
 use pool::Pool;
 use protocol::{Draft, Placement};
 use refusal::Refusal;
-use shelf::{SLOT, Shelf};
+use shelf::{CELL, Shelf};
 use std::alloc::{AllocError, Global};
 use tight::Tight;
 use worked::BLANK;
@@ -197,8 +197,8 @@ pub(crate) const AIRS: [&'static str; 4] = [
 
 /// A case on links over two airs of each of these sorts. The tight ones have the bound 1 from the one given.
 pub(crate) fn flown(alloc: Global, case: Case) -> Result<Flown, AllocError> {
-    let mut hut_bound = [BLANK; 3 * SLOT];
-    let mut mast_bound = [BLANK; 3 * SLOT];
+    let mut hut_bound = [BLANK; 3 * CELL];
+    let mut mast_bound = [BLANK; 3 * CELL];
     let on_shelves = holds(
         alloc,
         case,

@@ -1,6 +1,8 @@
 //! Flies the worked cases through the library's calls, and prints a line for each: its letter, a space, and `holds` or `off`. Behind them
 //! stand a line for the limits of windows and bounds, one for the example of RFC 1071, one for each sort of air on which G, H, L and M are
 //! flown, and the letters of the cases that are shown of the definitions, too.
+//!
+//! It must know nothing of how the library comes to its answers: it compares them with what was worked out before.
 #![tactic(auto)]
 
 use element::order::Order;

@@ -74,7 +74,7 @@ fn slots_at_hut(alloc: Global) -> Result<bool, AllocError> {
     let expected = [Placement::Slot(3), Placement::Outside, Placement::Outside];
     Ok(
         placements(&mut hut, draft.format(Side::Mast)) == Ok(expected)
-            && hut.acknowledgement() == Frame::Bare { ack: 15 },
+            && hut.bare_frame() == Frame::Bare { ack: 15 },
     )
 }
 
@@ -124,8 +124,8 @@ fn frames_at_mast(alloc: Global) -> Result<bool, AllocError> {
     Ok(
         held == Ok(())
             && mast.format() == draft.format(Side::Mast)
-            && mast.frame(2) == Some(last)
-            && mast.frame(3) == None,
+            && mast.laden_frame(2) == Some(last)
+            && mast.laden_frame(3) == None,
     )
 }
 

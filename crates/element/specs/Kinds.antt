@@ -10,6 +10,7 @@ pub record Field : Type 0 where
   pub offset : ℕ
   pub outside : Bool
 
+-- a field at this offset, and whether it is out of range
 abbrev pub field : ℕ → Bool → Field
 field at out = record { offset = at; outside = out }
 

@@ -6,6 +6,7 @@ use Rattle.std.proofs.lemmas.Bool.Decides.{nat_tests}
 use Rattle.element.specs.Orders.{order_written, order_value}
 use Rattle.element.specs.declared.order.Order.{Order}
 
+-- the only bytes that hold an order are its own
 pub order_only : (bs : List ℕ) (e : Order) → AllByRecursion (λ b. b < 256) bs → order_value bs ≡ Some e → order_written e ≡ bs
 order_only [] e h r = grind arith
 order_only (t ∷ []) e h r = grind arith

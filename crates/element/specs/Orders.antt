@@ -15,12 +15,13 @@ tag_of byte =
     (cond (byte == 3) (Ok Tag.Note)
     (Err (record {}))))
 
--- the fields behind the tag
+-- the fields behind the tag, each with its range
 abbrev pub order_fields : Order → List Field
 order_fields (Tune khz) = field 1 (nat_lt khz 400150 || nat_lt 406000 khz) ∷ []
 order_fields (Point bearing elevation) = field 1 (nat_lt 35999 bearing) ∷ field 3 (nat_lt 9000 elevation) ∷ []
 order_fields (Note number) = field 1 (nat_le (2 ^ 32) number) ∷ []
 
+-- the five bytes of an order: its tag, and 32 bits
 abbrev pub order_written : Order → List ℕ
 order_written (Tune khz) = 1 ∷ bytes32 khz
 order_written (Point bearing elevation) = 2 ∷ (bytes16 bearing ++ bytes16 elevation)
@@ -34,11 +35,14 @@ order_tagged tag a b c d =
     (cond (tag == 3) (Some (Note (number32 a b c d)))
     None))
 
+-- the order that bytes hold; none where they are not five, or the first is no tag
 abbrev pub order_value : List ℕ → Option Order
 order_value bs = cond (length bs == 5) (order_tagged (slice_index bs 0) (slice_index bs 1) (slice_index bs 2) (slice_index bs 3) (slice_index bs 4)) None
 
+-- orders as a kind
 abbrev pub order_coding : Coding Order
 order_coding = record { width = 5; fields = order_fields; written = order_written; value = order_value }
 
+-- some order
 abbrev pub an_order : Order
 an_order = Note 0

@@ -19,6 +19,7 @@ held_by n bs v e h = grind (arith, nat_tests)
 spelled : (bs : List ℕ) → length bs ≡ 14 → heads 0 14 0 bs ≡ bs
 spelled bs l = sym (take_heads 0 14 0 bs (omega arith)) ∙ take_all 14 bs (omega arith)
 
+-- writing the fields of fourteen bytes gives these bytes
 written_parts : (bs : List ℕ) → AllByRecursion (λ b. b < 256) bs → length bs ≡ 14 → reading_written (reading_parts bs) ≡ bs
 written_parts bs all l =
     let whole = spelled bs l in
@@ -31,6 +32,7 @@ written_parts bs all l =
     let pressure = part16 bs 12 all (omega arith) in
     cc
 
+-- the only bytes that hold a reading are its own
 pub reading_only : (bs : List ℕ) (e : Reading) → AllByRecursion (λ b. b < 256) bs → reading_value bs ≡ Some e → reading_written e ≡ bs
 reading_only bs e all h =
     let held = held_by 14 bs (reading_parts bs) e h in

@@ -6,19 +6,20 @@ use Rattle.octets.specs.Numbers.{bytes16, bytes32, number16, number32}
 use Rattle.element.specs.Kinds.{Coding, Field, field}
 use Rattle.element.specs.declared.reading.Reading.{Reading}
 
--- a number below zero, by its magnitude
+-- a number below zero, by its magnitude, which is 1 or more
 abbrev pub minus : ℕ → ℤ
 minus n = negsuc (pred n)
 
 -- below a lowest value or above a highest one
-abbrev pub beyond : ℤ → ℤ → ℤ → Bool
-beyond low high z = int_lt z low || int_lt high z
+abbrev pub out_of : ℤ → ℤ → ℤ → Bool
+out_of low high z = int_lt z low || int_lt high z
 
+-- the fields of a reading, each with its range
 abbrev pub reading_fields : Reading → List Field
 reading_fields r =
     field 0 (nat_le (2 ^ 32) r.time)
-    ∷ field 4 (beyond (minus 5000) (pos 500000) r.height)
-    ∷ field 8 (beyond (minus 12000) (pos 6000) r.temperature)
+    ∷ field 4 (out_of (minus 5000) (pos 500000) r.height)
+    ∷ field 8 (out_of (minus 12000) (pos 6000) r.temperature)
     ∷ field 10 (nat_lt 1000 r.humidity)
     ∷ field 12 (nat_lt 11000 r.pressure)
     ∷ []
@@ -37,11 +38,14 @@ reading_parts bs = record {
   pressure = number16 (slice_index bs 12) (slice_index bs 13);
 }
 
+-- the reading that bytes hold; none where they are not fourteen
 abbrev pub reading_value : List ℕ → Option Reading
 reading_value bs = cond (length bs == 14) (Some (reading_parts bs)) None
 
+-- readings as a kind
 abbrev pub reading_coding : Coding Reading
 reading_coding = record { width = 14; fields = reading_fields; written = reading_written; value = reading_value }
 
+-- some reading
 abbrev pub a_reading : Reading
 a_reading = record { time = 0; height = pos 0; temperature = pos 0; humidity = 0; pressure = 0 }

@@ -1,4 +1,7 @@
 //! Kinds of element: what a link carries, which values are allowed, and their bytes.
+//!
+//! It must know nothing of frames, airs and links. So reading answers at which offset of the element a field is at fault, and not
+//! where that is in a frame.
 #![tactic(auto)]
 
 ghost use Rattle.std.specs.Prelude.{◌≡◌, ℕ, ◌<◌, ◌≤◌, List, length, take, Some, None, Ok, Err};

@@ -1,4 +1,6 @@
 //! A first link: one reading goes from the mast to the hut.
+//!
+//! It must know nothing of frames and their bytes: a program that flies a link needs its calls alone.
 #![tactic(auto)]
 
 use element::order::Order;

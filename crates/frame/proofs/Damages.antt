@@ -8,7 +8,7 @@ use Rattle.octets.proofs.Numbers.{byte_at}
 use Rattle.octets.specs.Checks.{check}
 use Rattle.octets.specs.Numbers.{number16}
 use Rattle.refusal.specs.declared.Refusal.{Refusal}
-use Rattle.frame.specs.Formats.{answered, mapped}
+use Rattle.frame.specs.Formats.{mapped_answer, mapped}
 use Rattle.frame.specs.Reads.{is_sealed, read_from}
 use Rattle.frame.specs.Trips.{OneByteSafe}
 use Rattle.frame.specs.declared.Format.{Format}
@@ -63,6 +63,6 @@ one_byte_safe format w f bs all h =
     }
 
 -- the same of what the frame's bytes are a part of
-pub safe_read : {A : Type 0} (format : Format) (w : ℕ) (bs : List ℕ) (f : A → List ℕ) (r : Result (Frame A) Refusal) → AllByRecursion (λ b. b < 256) bs → read_from format w bs ≡ answered f r → is_ok r ≡ true → OneByteSafe format w bs
+pub safe_read : {A : Type 0} (format : Format) (w : ℕ) (bs : List ℕ) (f : A → List ℕ) (r : Result (Frame A) Refusal) → AllByRecursion (λ b. b < 256) bs → read_from format w bs ≡ mapped_answer f r → is_ok r ≡ true → OneByteSafe format w bs
 safe_read format w bs f (Ok x) all h ok = one_byte_safe format w (mapped f x) bs all h
 safe_read format w bs f (Err e) all h ok = cc

@@ -2,9 +2,9 @@
 use Rattle.std.proofs.Common.{◌≡◌, ℕ, ◌≤◌, List, length, Some, None, Ok, sym, ap, ◌∙◌, arith}
 use Rattle.element.specs.Kinds.{Coding, fault_of}
 use Rattle.refusal.specs.Refusals.{unless}
-use Rattle.frame.specs.Formats.{frame_bytes, mapped, past_cycle}
-use Rattle.frame.specs.Reads.{hear_from, understood}
-use Rattle.frame.specs.Writes.{bytes_of, unfit}
+use Rattle.frame.specs.Formats.{frame_bytes, mapped, not_below_cycle}
+use Rattle.frame.specs.Reads.{hear_from, element_read}
+use Rattle.frame.specs.Writes.{bytes_of, element_refusal}
 use Rattle.frame.specs.declared.Format.{Format}
 use Rattle.frame.specs.declared.Frame.{Frame}
 use Rattle.frame.proofs.Seals.{length_sealed}
@@ -12,7 +12,7 @@ use Rattle.frame.proofs.Trips.{passed_unless, reads_back}
 
 module _ {K : Type 0} (kind : Coding K) (format : Format) (exact : (e : K) → length (kind.written e) ≡ kind.width) (returned : (e : K) → fault_of kind e ≡ None → kind.value (kind.written e) ≡ Some e) where
   -- the element comes back from its bytes
-  understands : (f : Frame K) → unfit kind f ≡ None → understood kind (Ok (mapped kind.written f)) ≡ Ok f
+  understands : (f : Frame K) → element_refusal kind f ≡ None → element_read kind (Ok (mapped kind.written f)) ≡ Ok f
   understands f h = grind (arith, returned)
 
   -- how many bytes a frame has
@@ -21,10 +21,10 @@ module _ {K : Type 0} (kind : Coding K) (format : Format) (exact : (e : K) → l
   long f narrow = grind (arith, exact, length_sealed)
 
   -- the bytes of a frame that may be written: how many they are, and what is heard from them
-  pub heard_back : (f : Frame K) (bs : List ℕ) → format.cycles.ack ≤ 65536 → format.cycles.number ≤ 65536 → kind.width ≤ 18 → unless {A = Unit {0}} tt (past_cycle format f) ≡ Ok tt → unless (bytes_of kind format f) (unfit kind f) ≡ Ok bs → (14 ≤ length bs) × (length bs ≤ 32) × (hear_from kind format bs ≡ Ok f)
+  pub heard_back : (f : Frame K) (bs : List ℕ) → format.cycles.ack ≤ 65536 → format.cycles.number ≤ 65536 → kind.width ≤ 18 → unless {A = Unit {0}} tt (not_below_cycle format f) ≡ Ok tt → unless (bytes_of kind format f) (element_refusal kind f) ≡ Ok bs → (14 ≤ length bs) × (length bs ≤ 32) × (hear_from kind format bs ≡ Ok f)
   heard_back f bs acks numbers narrow past fit =
-      let cycle = passed_unless (past_cycle format f) _ _ past in
-      let fits = passed_unless (unfit kind f) (bytes_of kind format f) bs fit in
+      let cycle = passed_unless (not_below_cycle format f) _ _ past in
+      let fits = passed_unless (element_refusal kind f) (bytes_of kind format f) bs fit in
       let size = long f narrow in
       let whole = reads_back format kind.width (mapped kind.written f) acks numbers narrow (grind (arith, exact)) (grind arith) in
-      (omega (arith, ap length fits.0), omega (arith, ap length fits.0), ap (hear_from kind format) (sym fits.0) ∙ ap (understood kind) whole ∙ understands f fits.1)
+      (omega (arith, ap length fits.0), omega (arith, ap length fits.0), ap (hear_from kind format) (sym fits.0) ∙ ap (element_read kind) whole ∙ understands f fits.1)

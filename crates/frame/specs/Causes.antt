@@ -13,12 +13,13 @@ pub record Cause : Type 0 where
   pub refusal : Refusal
   pub applies : Bool
 
+-- a cause in the table: its refusal, and whether it applies
 abbrev pub cause : Refusal → Bool → Cause
 cause r b = record { refusal = r; applies = b }
 
 -- how many bytes a frame is to carry by its tag: none if bare, the kind's width if laden
-abbrev pub due : ℕ → Header → ℕ
-due width h = cond (h.tag == 1) 0 width
+abbrev pub carried_width : ℕ → Header → ℕ
+carried_width width h = cond (h.tag == 1) 0 width
 
 -- the causes in a header and the bytes that follow it
 abbrev pub header_causes : Format → ℕ → Header → List ℕ → List Cause
@@ -26,7 +27,7 @@ header_causes format width h carried =
     cause (WrongField 5) (not (h.tag == 1) && not (h.tag == 2))
     ∷ cause (WrongField 6) (not (h.sender == sender_byte format.sender))
     ∷ cause (WrongField 9) (h.tag == 1 && not (h.number == 0))
-    ∷ cause (WrongField 11) (not (h.width == due width h) || not (length carried == due width h))
+    ∷ cause (WrongField 11) (not (h.width == carried_width width h) || not (length carried == carried_width width h))
     ∷ cause (NumberPastCycle 7) (not (nat_lt h.ack format.cycles.ack))
     ∷ cause (NumberPastCycle 9) (h.tag == 2 && not (nat_lt h.number format.cycles.number))
     ∷ []

@@ -36,13 +36,13 @@ header_of side (Bare ack) = record { tag = 1; sender = sender_byte side; ack = a
 header_of side (Laden ack number element) = record { tag = 2; sender = sender_byte side; ack = ack; number = number; width = length element }
 
 -- the bytes that a frame carries
-abbrev pub payload : Frame (List ℕ) → List ℕ
-payload (Bare ack) = []
-payload (Laden ack number element) = element
+abbrev pub carried : Frame (List ℕ) → List ℕ
+carried (Bare ack) = []
+carried (Laden ack number element) = element
 
 -- the bytes of a frame: its header, what it carries, and the check of both
 unfoldable pub frame_bytes : Side → Frame (List ℕ) → List ℕ
-frame_bytes side f = sealed_bytes (header_bytes (header_of side f) ++ payload f)
+frame_bytes side f = sealed_bytes (header_bytes (header_of side f) ++ carried f)
 
 module _ {A B : Type 0} (f : A → B) where
   -- the same frame with another form of its element
@@ -50,21 +50,21 @@ module _ {A B : Type 0} (f : A → B) where
   mapped (Bare ack) = Bare ack
   mapped (Laden ack number element) = Laden ack number (f element)
 
-  -- the same of an answer
-  abbrev pub answered : Result (Frame A) Refusal → Result (Frame B) Refusal
-  answered (Ok x) = Ok (mapped x)
-  answered (Err e) = Err e
+  -- the same of the frame in an answer
+  abbrev pub mapped_answer : Result (Frame A) Refusal → Result (Frame B) Refusal
+  mapped_answer (Ok x) = Ok (mapped x)
+  mapped_answer (Err e) = Err e
 
 -- the refusal of a number, at its place, that is not below its cycle
-abbrev pub past_at : ℕ → ℕ → ℕ → Option Refusal
-past_at place number cycle = cond (nat_lt number cycle) None (Some (NumberPastCycle place))
+abbrev pub not_below : ℕ → ℕ → ℕ → Option Refusal
+not_below place number cycle = cond (nat_lt number cycle) None (Some (NumberPastCycle place))
 
 -- the refusal of a frame whose acknowledgement or number is not below its cycle; the acknowledgement is told first
-abbrev pub past_cycle : {E : Type 0} → Format → Frame E → Option Refusal
-past_cycle format (Bare ack) = past_at 7 ack format.cycles.ack
-past_cycle format (Laden ack number element) = option_or (past_at 7 ack format.cycles.ack) (past_at 9 number format.cycles.number)
+abbrev pub not_below_cycle : {E : Type 0} → Format → Frame E → Option Refusal
+not_below_cycle format (Bare ack) = not_below 7 ack format.cycles.ack
+not_below_cycle format (Laden ack number element) = option_or (not_below 7 ack format.cycles.ack) (not_below 9 number format.cycles.number)
 
 -- a frame with an element that is so wide, or with none
-abbrev pub Wide : ℕ → Frame (List ℕ) → Type 0
-Wide width (Bare ack) = Unit {0}
-Wide width (Laden ack number element) = length element ≡ width
+abbrev pub OfWidth : ℕ → Frame (List ℕ) → Type 0
+OfWidth width (Bare ack) = Unit {0}
+OfWidth width (Laden ack number element) = length element ≡ width

@@ -6,7 +6,7 @@ use Rattle.element.specs.Kinds.{Coding, element_from}
 use Rattle.refusal.specs.Refusals.{unless}
 use Rattle.refusal.specs.declared.Refusal.{Refusal}
 use Rattle.refusal.specs.declared.Refusal.TheVariants.{FrameLength, MarkOrVersion, WrongCheck, WrongField, NoElement}
-use Rattle.frame.specs.Formats.{past_cycle, sender_byte}
+use Rattle.frame.specs.Formats.{not_below_cycle, sender_byte}
 use Rattle.frame.specs.declared.Format.{Format}
 use Rattle.frame.specs.declared.Frame.{Frame}
 use Rattle.frame.specs.declared.Frame.TheVariants.{Bare, Laden}
@@ -42,14 +42,14 @@ carried_in bs = take (length bs - 14) (drop 12 bs)
 abbrev pub tag_in : ℕ → Result Tag Refusal
 tag_in byte = cond (byte == 1) (Ok BareTag) (cond (byte == 2) (Ok LadenTag) (Err (WrongField 5)))
 
--- a bare frame: no number, no width, and nothing carried
+-- a bare frame: its header tells the number 0 and the width 0, and it carries nothing
 abbrev pub bare_in : Header → List ℕ → Result (Frame (List ℕ)) Refusal
 bare_in h carried =
     cond (not (h.number == 0)) (Err (WrongField 9))
     (cond (not (h.width == 0 && length carried == 0)) (Err (WrongField 11))
     (Ok (Bare h.ack)))
 
--- a laden frame: the width of the kind, and as many bytes carried
+-- a laden frame: its header tells the width of the kind, and it carries as many bytes
 abbrev pub laden_in : ℕ → Header → List ℕ → Result (Frame (List ℕ)) Refusal
 laden_in width h carried =
     cond (not (h.width == width && length carried == width)) (Err (WrongField 11))
@@ -63,9 +63,9 @@ frame_in sender width h carried =
     (cond (h.tag == 1) (bare_in h carried) (laden_in width h carried)))
 
 -- a frame, unless one of its numbers is not below its cycle
-abbrev pub on_cycle : Format → Result (Frame (List ℕ)) Refusal → Result (Frame (List ℕ)) Refusal
-on_cycle format (Ok f) = unless f (past_cycle format f)
-on_cycle format (Err r) = Err r
+abbrev pub kept_on_cycle : Format → Result (Frame (List ℕ)) Refusal → Result (Frame (List ℕ)) Refusal
+kept_on_cycle format (Ok f) = unless f (not_below_cycle format f)
+kept_on_cycle format (Err r) = Err r
 
 -- the header and what lies between it and the check, in bytes of a right length that begin with the mark and the version
 abbrev pub parts_in : List ℕ → Result (Header × List ℕ) Refusal
@@ -81,7 +81,7 @@ parts_seen (Err r) = Err r
 
 -- the frame that such parts are, for a kind that is so wide, if the bytes end with their check
 abbrev pub frame_of : Format → ℕ → List ℕ → Result (Header × List ℕ) Refusal → Result (Frame (List ℕ)) Refusal
-frame_of format width bs (Ok p) = cond (not (is_sealed bs)) (Err (WrongCheck (length bs - 2))) (on_cycle format (frame_in format.sender width p.0 p.1))
+frame_of format width bs (Ok p) = cond (not (is_sealed bs)) (Err (WrongCheck (length bs - 2))) (kept_on_cycle format (frame_in format.sender width p.0 p.1))
 frame_of format width bs (Err r) = Err r
 
 -- the frame in some bytes, for a kind that is so wide
@@ -94,11 +94,12 @@ module _ {K : Type 0} (kind : Coding K) where
   with_element ack number (Ok e) = Ok (Laden ack number e)
   with_element ack number (Err at) = Err (NoElement (12 + at))
 
-  abbrev pub understood : Result (Frame (List ℕ)) Refusal → Result (Frame K) Refusal
-  understood (Ok (Bare ack)) = Ok (Bare ack)
-  understood (Ok (Laden ack number bs)) = with_element ack number (element_from kind bs)
-  understood (Err r) = Err r
+  -- what was read, with its element read too
+  abbrev pub element_read : Result (Frame (List ℕ)) Refusal → Result (Frame K) Refusal
+  element_read (Ok (Bare ack)) = Ok (Bare ack)
+  element_read (Ok (Laden ack number bs)) = with_element ack number (element_from kind bs)
+  element_read (Err r) = Err r
 
   -- what bytes say to who expects this kind
   abbrev pub hear_from : Format → List ℕ → Result (Frame K) Refusal
-  hear_from format bs = understood (read_from format kind.width bs)
+  hear_from format bs = element_read (read_from format kind.width bs)

@@ -2,7 +2,7 @@
 use Rattle.std.specs.Prelude.{◌≡◌, ℕ, ◌<◌, ◌≤◌, false, List, length, take, is_ok, None, Ok, Err, Result, ◌≢◌, slice_index, slice_set}
 use Rattle.element.specs.Kinds.{Coding}
 use Rattle.refusal.specs.declared.Refusal.{Refusal}
-use Rattle.frame.specs.Formats.{Wide, frame_bytes, past_cycle}
+use Rattle.frame.specs.Formats.{OfWidth, frame_bytes, not_below_cycle}
 use Rattle.frame.specs.Reads.{hear_from, read_from}
 use Rattle.frame.specs.Writes.{bytes_of, refusal_of}
 use Rattle.frame.specs.declared.Format.{Format}
@@ -10,7 +10,7 @@ use Rattle.frame.specs.declared.Frame.{Frame}
 
 -- bytes that are read as a frame are the bytes of that frame, which is one that may be written
 abbrev pub OnlyWritten : Format → ℕ → List ℕ → Result (Frame (List ℕ)) Refusal → Type 0
-OnlyWritten format width bs (Ok f) = (past_cycle format f ≡ None) × Wide width f × (frame_bytes format.sender f ≡ bs)
+OnlyWritten format width bs (Ok f) = (not_below_cycle format f ≡ None) × OfWidth width f × (frame_bytes format.sender f ≡ bs)
 OnlyWritten format width bs (Err r) = Unit {0}
 
 -- with any one byte changed to another, the bytes are not read as a frame

@@ -3,7 +3,8 @@ ghost use Rattle.std.specs.Prelude.{◌≡◌};
 ghost use Rattle.frame.specs.Formats.{header_bytes, sender_byte};
 ghost use Rattle.frame.specs.Reads.{tag_in};
 
-use crate::Side;
+use crate::{LONGEST, Side};
+use element::WIDEST;
 use refusal::Refusal;
 
 /// The fields of a header, behind the mark and the version.
@@ -21,6 +22,9 @@ pub(crate) const VERSION: u8 = 1;
 
 /// How many bytes a header has.
 pub(crate) const HEADER: usize = 12;
+
+// The longest frame has a header, the widest element and the check.
+const _: () = prove!(HEADER + WIDEST + 2 == LONGEST);
 
 /// What a frame carries, by the number that stands for it in the header.
 #[derive(Clone, Copy, PartialEq, Eq, Debug)]

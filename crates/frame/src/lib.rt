@@ -1,10 +1,13 @@
 //! Frames: what one end of a link sends to the other, as bytes.
 //!
 //! A frame says what its sender has heard so far, by an acknowledgement, and may carry one element with its number.
+//!
+//! It must know nothing of airs, drafts and links, nor which kinds of element there are: the sender and the cycles come with a
+//! format, and of a kind it goes by the trait alone.
 #![tactic(auto)]
 
 ghost use Rattle.std.specs.Prelude.{◌≡◌};
-ghost use Rattle.frame.specs.Formats.{other_side, past_at, past_cycle};
+ghost use Rattle.frame.specs.Formats.{other_side, not_below, not_below_cycle};
 ghost use Rattle.refusal.specs.Refusals.{unless};
 
 use refusal::Refusal;
@@ -62,7 +65,7 @@ pub enum Frame<E> {
 
 /// Refuses a number, at its place, that is not below its cycle.
 fn below(place: usize, number: u16, cycle: u16) -> Result<(), Refusal>
-    ensures { result ≡ unless tt (past_at place number cycle) }
+    ensures { result ≡ unless tt (not_below place number cycle) }
 {
     if number < cycle {
         Ok(())
@@ -74,7 +77,7 @@ fn below(place: usize, number: u16, cycle: u16) -> Result<(), Refusal>
 impl<E> Frame<E> {
     /// Refuses a frame whose acknowledgement, at place 7, or number, at place 9, is not below its cycle.
     fn on_cycle(&self, format: Format) -> Result<(), Refusal>
-        ensures { result ≡ unless tt (past_cycle format self.now) }
+        ensures { result ≡ unless tt (not_below_cycle format self.now) }
     {
         let cycles = format.cycles;
         match self {

@@ -1,8 +1,8 @@
 //! Reading frames.
 ghost use Rattle.std.specs.Prelude.{◌≡◌, true, is_ok};
 ghost use Rattle.frame.specs.Causes.{SmallestFirst};
-ghost use Rattle.frame.specs.Formats.{answered};
-ghost use Rattle.frame.specs.Reads.{bare_in, frame_in, hear_from, is_sealed, laden_in, on_cycle, parts_in, parts_seen, read_from};
+ghost use Rattle.frame.specs.Formats.{mapped_answer};
+ghost use Rattle.frame.specs.Reads.{bare_in, frame_in, hear_from, is_sealed, laden_in, kept_on_cycle, parts_in, parts_seen, read_from};
 ghost use Rattle.frame.specs.Trips.{OneByteSafe, OnlyHeard, OnlyWritten};
 
 use crate::header::{HEADER, Header, Tag, VERSION};
@@ -75,7 +75,7 @@ impl<'a> TryFrom<&'a [u8]> for Parts<'a> {
 impl<'a> Parts<'a> {
     /// The bare frame that the header says.
     fn bare(self) -> Result<Frame<&'a [u8]>, Refusal>
-        ensures { answered (λ e. e.now) result ≡ bare_in self.entry.header self.entry.element.now }
+        ensures { mapped_answer (λ e. e.now) result ≡ bare_in self.entry.header self.entry.element.now }
     {
         if self.header.number != 0 {
             return Err(Refusal::WrongField { place: 9 });
@@ -90,7 +90,7 @@ impl<'a> Parts<'a> {
 
     /// The laden frame that the header says, of the kind K.
     fn laden<K: Kind>(self) -> Result<Frame<&'a [u8]>, Refusal>
-        ensures { answered (λ e. e.now) result ≡ laden_in K.coding.width self.entry.header self.entry.element.now }
+        ensures { mapped_answer (λ e. e.now) result ≡ laden_in K.coding.width self.entry.header self.entry.element.now }
     {
         let width = K::width();
         if usize::from(self.header.width) != width || self.element.len() != width {
@@ -105,7 +105,7 @@ impl<'a> Parts<'a> {
 
     /// The frame that the parts are, if the header's fields are well formed.
     fn well_formed<K: Kind>(self, sender: Side) -> Result<Frame<&'a [u8]>, Refusal>
-        ensures { answered (λ e. e.now) result ≡ frame_in sender K.coding.width self.entry.header self.entry.element.now }
+        ensures { mapped_answer (λ e. e.now) result ≡ frame_in sender K.coding.width self.entry.header self.entry.element.now }
     {
         let tag = Tag::try_from(self.header.tag)?;
         if self.header.sender != u8::from(sender) {
@@ -119,7 +119,7 @@ impl<'a> Parts<'a> {
 
     /// The same, if its numbers are below their cycles too.
     fn frame<K: Kind>(self, format: Format) -> Result<Frame<&'a [u8]>, Refusal>
-        ensures { answered (λ e. e.now) result ≡ on_cycle format (frame_in format.sender K.coding.width self.entry.header self.entry.element.now) }
+        ensures { mapped_answer (λ e. e.now) result ≡ kept_on_cycle format (frame_in format.sender K.coding.width self.entry.header self.entry.element.now) }
     {
         let frame = self.well_formed::<K>(format.sender)?;
         frame.on_cycle(format)?;
@@ -129,8 +129,8 @@ impl<'a> Parts<'a> {
 
 /// The frame in the bytes heard, for a kind K of element that is not looked into; or why they are none.
 pub fn read<'a, K: Kind>(format: Format, bytes: &'a [u8]) -> Result<Frame<&'a [u8]>, Refusal>
-    ensures answer { answered (λ e. e.now) result ≡ read_from format K.coding.width bytes.now }
-    ensures only { OnlyWritten format K.coding.width bytes.now (answered (λ e. e.now) result) }
+    ensures answer { mapped_answer (λ e. e.now) result ≡ read_from format K.coding.width bytes.now }
+    ensures only { OnlyWritten format K.coding.width bytes.now (mapped_answer (λ e. e.now) result) }
     ensures safe { is_ok result ≡ true → OneByteSafe format K.coding.width bytes.now }
     ensures smallest { SmallestFirst format K.coding.width bytes.now result }
 {

@@ -3,7 +3,7 @@ ghost use Rattle.std.specs.Prelude.{◌≡◌, ◌≤◌, ◌++◌, length};
 ghost use Rattle.refusal.specs.Refusals.{unless};
 ghost use Rattle.frame.specs.Formats.{frame_bytes, header_bytes, mapped, sealed_bytes};
 ghost use Rattle.frame.specs.Trips.{HeardBack, Sized};
-ghost use Rattle.frame.specs.Writes.{items_in, unfit, write_into};
+ghost use Rattle.frame.specs.Writes.{items_in, element_refusal, write_into};
 
 use crate::header::{Header, Tag};
 use crate::{Format, Frame, LONGEST, Side};
@@ -29,7 +29,7 @@ impl<K: Kind> Frame<K> {
     /// The frame's bytes, whatever its numbers; refused where a field of its element is out of range.
     #[tactic(auto, unfolding(crate::specs::Formats::frame_bytes))]
     fn bytes(&self, sender: Side) -> Result<ArrayVec<u8, LONGEST>, Refusal>
-        ensures { items_in result ≡ unless (frame_bytes sender (mapped K.coding.written self.now)) (unfit K.coding self.now) }
+        ensures { items_in result ≡ unless (frame_bytes sender (mapped K.coding.written self.now)) (element_refusal K.coding self.now) }
     {
         let mut area = [0; WIDEST];
         let (tag, ack, number, width) = match *self {

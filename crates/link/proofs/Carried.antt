@@ -15,7 +15,7 @@ use Rattle.element.specs.Kinds.{Coding}
 use Rattle.frame.specs.Writes.{bytes_of, refusal_of, write_into}
 use Rattle.frame.specs.declared.Frame.{Frame}
 use Rattle.frame.specs.declared.Frame.TheVariants.{Laden}
-use Rattle.protocol.specs.Machine.{Setting, Reply, hear, hear_at, hear_waiting, put, send_held, step, unless_refused}
+use Rattle.protocol.specs.Machine.{Setting, Reply, hear, hear_at, hear_waiting, put, send_held, step, act_unless}
 use Rattle.protocol.specs.Machine.Act.{bare, deliver, repeat, send}
 use Rattle.protocol.specs.Windows.{cyclic, next_free}
 use Rattle.window.specs.Seen.{receiver_state, sender_state}
@@ -116,7 +116,7 @@ module _ {E F : Type 0} (kind : Coding E) (heard_kind : Coding F) where
       ∙ heard_alike c d (c.codec.read (take n new)) left other (end_state e) (with_waiting air left) air back_air
       ∙ ap (λ bs. hear c d (c.codec.read bs) left before) (t.2 ∙ ap frame_bytes found)
       ∙ sym (ap (λ x. hear_waiting c d x left before) found)
-      ∙ sym (ap (λ o. unless_refused o (hear_waiting c d (slice_get air.waiting k) left before) before) t.0)
+      ∙ sym (ap (λ o. act_unless o (hear_waiting c d (slice_get air.waiting k) left before) before) t.0)
 
   -- so it takes the machine's step as it delivers
   pub delivered : (e e_after : End E F) (air air_after : AirState Bytes) (k n : ℕ) (area new : Bytes) (r : Reply E) →

@@ -8,8 +8,9 @@ use Rattle.air.specs.Steps.{Bytes}
 use Rattle.element.specs.Kinds.{Coding}
 use Rattle.protocol.specs.Windows.{cyclic, first_free, first_slot, moved_on}
 use Rattle.protocol.specs.Machine.Act.{pass}
-use Rattle.protocol.specs.Machine.Reply.{handed}
+use Rattle.protocol.specs.Machine.Reply.{passed_on}
 use Rattle.protocol.specs.Histories.{all_passed, other_does, passed_by}
+use Rattle.protocol.proofs.Slots.{free_push}
 use Rattle.link.specs.Acts.{ActsAlone}
 use Rattle.link.specs.Ends.{EndSettings, EndState, end_state, facing, link_of, new_end, sending, settings_of}
 use Rattle.link.specs.Courses.{Runs, Undergo, UndergoesAlone, parts}
@@ -19,18 +20,6 @@ use Rattle.link.proofs.Phases.{acts, as_well, faces_still, facing_twice, limits_
 use Rattle.link.proofs.Turns.{over_air}
 
 module _ {E : Type 0} where
-  -- one more free slot at the end changes nothing before the first
-  free_push : (xs : List (Option E)) → first_free (xs ++ (None ∷ [])) ≡ first_free xs
-  free_push [] = refl
-  free_push (None ∷ xs) = refl
-  free_push (Some e ∷ xs) = ap suc (free_push xs)
-
-  -- no more slots are filled before the first free one than there are
-  pub free_le : (xs : List (Option E)) → first_free xs ≤ length xs
-  free_le [] = omega arith
-  free_le (None ∷ xs) = omega arith
-  free_le (Some e ∷ xs) = omega (arith, free_le xs)
-
   -- once the first slot's element is passed, the first free one is one place nearer
   free_passed : (e : E) (xs : List (Option E)) → Some e ≡ first_slot xs → first_free xs ≡ first_free (drop 1 xs ++ (None ∷ [])) + 1
   free_passed e [] h = absurd cc
@@ -42,7 +31,7 @@ abbrev left_by : {E F : Type 0} → EndSettings → Option E → EndState F E �
 left_by s o e = record { sender = e.sender; receiver = moved_on (cyclic s.heard_cycle) o e.receiver }
 
 module _ {E F : Type 0} {kind : Coding E} {heard_kind : Coding F} where
-  module _ {m m′ : End F E} {o : Option E} (x : ActsAlone heard_kind kind m m′ pass (handed o)) where
+  module _ {m m′ : End F E} {o : Option E} (x : ActsAlone heard_kind kind m m′ pass (passed_on o)) where
     -- what an end passes stood in its first slot
     hands : o ≡ first_slot (end_state m).receiver.slots
     hands = let e = ap (λ t. t.reply) (x.steps (new_end (settings_of m)) (empty_air 0 0) (empty_air 0 0)) in cc
@@ -56,21 +45,21 @@ module _ {E F : Type 0} {kind : Coding E} {heard_kind : Coding F} where
 
     -- one pass, in the link with the end that it faces
     passes : {n : End E F} {a b : AirState Bytes} {es : List E} →
-        settings_of m ≡ facing (settings_of n) → ((xs : List E) → passed_by (handed o) xs ≡ xs ++ es) →
+        settings_of m ≡ facing (settings_of n) → ((xs : List E) → passed_by (passed_on o) xs ≡ xs ++ es) →
         Undergo kind heard_kind (λ c d. other_does c d pass) (parts n m a b) (parts n m′ a b) es []
     passes {n} {a} {b} faces h =
         turned_round
         (acts (sym (facing_twice (settings_of n)) ∙ ap facing (sym faces)) limits_same h
-        (over_air heard_kind kind m m′ pass (handed o) b x))
+        (over_air heard_kind kind m m′ pass (passed_on o) b x))
 
   -- so that the first free slot is nearer
-  pub nearer : {m m′ : End F E} {e : E} → ActsAlone heard_kind kind m m′ pass (handed (Some e)) →
+  pub nearer : {m m′ : End F E} {e : E} → ActsAlone heard_kind kind m m′ pass (passed_on (Some e)) →
       first_free (end_state m).receiver.slots ≡ first_free (end_state m′).receiver.slots + 1
   nearer {m} {m′} {e} x = free_passed e (end_state m).receiver.slots (hands x) ∙ ap (λ s. first_free s.receiver.slots + 1) (sym (leaves x))
 
   -- an end that has nothing to pass can be asked again and again
   idles : {n : End E F} {m m′ : End F E} {a b : AirState Bytes} (k : ℕ) → settings_of m ≡ facing (settings_of n) →
-      ActsAlone heard_kind kind m m′ pass (handed None) →
+      ActsAlone heard_kind kind m m′ pass (passed_on None) →
       Undergo kind heard_kind (λ c d. iterate (other_does c d pass) k) (parts n m a b) (parts n m′ a b) [] []
   idles {n} {m} {m′} {a} {b} k faces x =
       let f = other_does (sending kind (settings_of n) a) (sending heard_kind (facing (settings_of n)) b) pass in
@@ -90,7 +79,7 @@ module _ {E F : Type 0} {kind : Coding E} {heard_kind : Coding F} where
   -- one more element is passed
   pub passed_more : (i j : ℕ) {m m′ m″ : End F E} {es es′ : List E} (e : E) → j ≡ i + 1 → es ++ (e ∷ []) ≡ es′ →
       UndergoesAlone kind heard_kind (λ c d. iterate (other_does c d pass) i) m m′ es →
-      ActsAlone heard_kind kind m′ m″ pass (handed (Some e)) →
+      ActsAlone heard_kind kind m′ m″ pass (passed_on (Some e)) →
       UndergoesAlone kind heard_kind (λ c d. iterate (other_does c d pass) j) m m″ es′
   passed_more i j e more h x y = record {
     settings = y.settings ∙ x.settings;
@@ -102,7 +91,7 @@ module _ {E F : Type 0} {kind : Coding E} {heard_kind : Coding F} where
 
   -- an end that has no more to pass has passed all
   pub passed_all : (i : ℕ) {m m′ m″ : End F E} {es : List E} → i ≤ length (end_state m).receiver.slots →
-      UndergoesAlone kind heard_kind (λ c d. iterate (other_does c d pass) i) m m′ es → ActsAlone heard_kind kind m′ m″ pass (handed None) →
+      UndergoesAlone kind heard_kind (λ c d. iterate (other_does c d pass) i) m m′ es → ActsAlone heard_kind kind m′ m″ pass (passed_on None) →
       UndergoesAlone kind heard_kind all_passed m m″ es
   passed_all i {m} {m′} {m″} {es} few x y = record {
     settings = y.settings ∙ x.settings;

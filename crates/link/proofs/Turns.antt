@@ -5,7 +5,7 @@ use Rattle.refusal.specs.declared.Refusal.{Refusal}
 use Rattle.air.specs.Waiting.{AirState, lost}
 use Rattle.air.specs.Steps.{Bytes, lose_step, place_refusal, step_unless}
 use Rattle.element.specs.Kinds.{Coding}
-use Rattle.protocol.specs.Machine.{Act, Reply, Setting, State, act, step, turned, unless_refused, with_air}
+use Rattle.protocol.specs.Machine.{Act, Reply, Setting, State, act, step, turned, act_unless, with_air}
 use Rattle.protocol.specs.Machine.Act.{lose}
 use Rattle.protocol.specs.Machine.Reply.{done}
 use Rattle.protocol.specs.Histories.Call.{mast as of_mast, hut as of_hut}
@@ -33,7 +33,7 @@ loses kind s d near far air air_after back_air k r = by (place_refusal k air)
   where
     by : (refusal : Option Refusal) → (r, air_after) ≡ step_unless refusal (lost k air) air →
         let before = link_of near far air back_air in
-        step (link_of near far air_after back_air) (done_reply r) ≡ unless_refused refusal (step (with_air before (lost k air).waiting) done) before
+        step (link_of near far air_after back_air) (done_reply r) ≡ act_unless refusal (step (with_air before (lost k air).waiting) done) before
     by None e = ap (λ p. step (link_of near far p.1 back_air) (done_reply p.0)) e
     by (Some refusal) e = ap (λ p. step (link_of near far p.1 back_air) (done_reply p.0)) e
 

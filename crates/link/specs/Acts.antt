@@ -1,5 +1,5 @@
--- What an end does: in every link that it may be an end of, the machine's step. Whatever the end at the other side keeps, and whatever
--- waits in the airs, the link is after the call what the machine makes of it, with the machine's reply.
+-- What an end does: in every link that it may be an end of, the machine's step. Whatever the end at the other side keeps (other), and
+-- whatever waits in the other air (back_air), the link is after the call what the machine makes of it, with the machine's reply.
 use Rattle.std.specs.Prelude.{◌≡◌}
 use Rattle.air.specs.Steps.{Bytes}
 use Rattle.air.specs.Waiting.{AirState}

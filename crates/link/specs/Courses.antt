@@ -40,6 +40,7 @@ pub record Parts (E F : Type 0) : Type 0 where
   pub back_air : AirState Bytes
 
 module _ {E F : Type 0} where
+  -- the same, put together
   abbrev pub parts : End E F → End F E → AirState Bytes → AirState Bytes → Parts E F
   parts near far air back_air = record { near = near; far = far; air = air; back_air = back_air }
 

@@ -62,10 +62,11 @@ sending kind s air = record {
 }
 
 module _ {E F : Type 0} where
-  -- what an end of the program keeps, and what it is set to
+  -- what an end of the program keeps
   abbrev pub end_state : End E F → EndState E F
   end_state e = record { sender = sender_state e.sender; receiver = receiver_state e.receiver }
 
+  -- and what it is set to
   abbrev pub settings_of : End E F → EndSettings
   settings_of e = record {
     side = e.side;

@@ -6,7 +6,7 @@ ghost use Rattle.link.specs.Ends.{bare_frame, drafted, end_state, facing, format
 ghost use Rattle.link.specs.Lives.{record_of};
 ghost use Rattle.link.specs.Replies.{done_reply, heard_reply};
 ghost use Rattle.protocol.specs.Machine.Act.{accept, pass};
-ghost use Rattle.protocol.specs.Machine.Reply.{handed};
+ghost use Rattle.protocol.specs.Machine.Reply.{passed_on};
 
 use crate::{EndRecord, Hearing};
 use element::Kind;
@@ -67,8 +67,8 @@ impl<O: Kind, I: Kind> End<O, I> {
         }
     }
 
-    /// The frame in which it sends its k-th held element; none if fewer are held.
-    pub fn frame(&self, k: usize) -> Option<Frame<O>>
+    /// The frame in which it sends its k-th held element, counted from 0; none if no more than k are held.
+    pub fn laden_frame(&self, k: usize) -> Option<Frame<O>>
         ensures { result ≡ laden_frame (settings_of self.now) k (end_state self.now) }
     {
         let (number, element) = self.sender.get(k)?;
@@ -80,7 +80,7 @@ impl<O: Kind, I: Kind> End<O, I> {
     }
 
     /// The frame in which it sends its acknowledgement alone.
-    pub fn acknowledgement(&self) -> Frame<O>
+    pub fn bare_frame(&self) -> Frame<O>
         ensures { result ≡ bare_frame (settings_of self.now) (end_state self.now) }
     {
         let ack = self.receiver.next_free();
@@ -97,7 +97,7 @@ impl<O: Kind, I: Kind> End<O, I> {
 
     /// Passes on the element in the first slot, if that is filled.
     pub fn pass(&mut self) -> Option<I>
-        ensures { ActsAlone O.coding I.coding self.old self.new pass (handed result) }
+        ensures { ActsAlone O.coding I.coding self.old self.new pass (passed_on result) }
     {
         self.receiver.pass()
     }

@@ -1,7 +1,10 @@
 //! The link: two ends, the mast on its hill and the hut at the launch field, and the airs between them.
 //!
 //! An end can be made by itself from a draft. An open link owns both ends and both airs; it is opened from a draft, and closed into its
-//! record. Every call takes one step of the machine that the protocol defines, so that what is proved of the machine holds of the link.
+//! record. Each of its calls does what the machine of the protocol does, so that what is proved of the machine holds of the link.
+//!
+//! It alone knows frames, airs and windows together. It must know nothing of which kinds of element and which airs there are, but for
+//! the tight air, by which it holds each air to its bound.
 #![tactic(auto)]
 
 mod end;

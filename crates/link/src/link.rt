@@ -14,7 +14,7 @@ mod settling;
 /// An open link: the mast, the hut, and between them an air for each direction. X is the kind of element that goes to the hut, and Y the
 /// kind that goes to the mast; A and B are the airs that carry them.
 ///
-/// It owns all of these. It cannot be let go, but only closed, so that no element is lost by forgetting it.
+/// It owns all of these. It cannot be let go, but only closed, so that its record tells what is left behind.
 pub struct Link<X, Y, A, B> {
     draft: Draft,
     mast: End<X, Y>,

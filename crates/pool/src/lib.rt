@@ -1,4 +1,6 @@
-//! The pool: an air with a table of its own.
+//! The pool: an air with a table of its own, with room for sixteen frames.
+//!
+//! It must know nothing of what a frame says, nor of the link that it carries frames for: what it promises is what every air does.
 #![tactic(auto)]
 
 ghost use Rattle.std.specs.Prelude.{◌≤◌, length};

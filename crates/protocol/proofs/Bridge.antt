@@ -3,12 +3,12 @@ use Rattle.std.proofs.Common.{◌≡◌, ℕ, zero, suc, Bool, true, List, [], �
 use Rattle.refusal.specs.declared.Refusal.{Refusal}
 use Rattle.std.specs.Fn.{iterate}
 use Rattle.std.specs.Option.{option_map_or}
-use Rattle.protocol.specs.Machine.{Setting, State, Step, Act, turned, act, unless_refused}
+use Rattle.protocol.specs.Machine.{Setting, State, Step, Act, turned, act, act_unless}
 use Rattle.protocol.specs.Machine.Act.{accept, send, bare, deliver, pass}
 use Rattle.protocol.specs.Histories.{Past, Call, Answer, turned_past, after_step, does, other_does, from_other_end, up_to, settle_refusal, calls, answers}
 use Rattle.protocol.specs.Histories.{emptied, all_passed, all_sent, reported, drained, flushed, settled, start, after}
 use Rattle.protocol.specs.Histories.Call.{mast, hut, settle}
-use Rattle.protocol.specs.Histories.Answer.{to_mast, to_hut, settled_lists, settle_refused}
+use Rattle.protocol.specs.Histories.Answer.{mast_answer, hut_answer, settled_lists, settle_refused}
 
 -- where I holds, g keeps it, and f does to what is seen through φ what g does
 pub record Same {A B : Type 0} (I : A → Type 0) (φ : A → B) (f : B → B) (g : A → A) : Type 0 where
@@ -49,14 +49,14 @@ module _ {E F V W V2 W2 : Type 0} (ψ : State E F V W → State E F V2 W2) where
   seen t = record { state = ψ t.state; reply = t.reply }
 
   abbrev pub through : Past E F V W → Past E F V2 W2
-  through p = record { state = ψ p.state; out = p.out; back = p.back; misread = p.misread }
+  through p = record { state = ψ p.state; out = p.out; back = p.back; bytes_refused = p.bytes_refused }
 
   abbrev pub around : State F E W V → State F E W2 V2
   around s = turned (ψ (turned s))
 
   -- a step that is refused alike in both is seen as it is, if it is so where neither is refused
   pub unless_seen : (o2 o : Option Refusal) {t2 : Step E F V2 W2} {t : Step E F V W} (s : State E F V W) → o2 ≡ o → t2 ≡ seen t →
-      unless_refused o2 t2 (ψ s) ≡ seen (unless_refused o t s)
+      act_unless o2 t2 (ψ s) ≡ seen (act_unless o t s)
   unless_seen o2 None s e i = rw e i
   unless_seen o2 (Some refusal) s e i = rw e
 
@@ -175,8 +175,8 @@ module _ {E F V W V2 W2 : Type 0} {C : Setting E V2} {D : Setting F W2} {c : Set
       (unless_same o (settled_same b.halves))
 
   pub answers_same : (x : Call E F) (p : Past E F V W) → I p → answers C D x (through ψ p) ≡ answers c d x p
-  answers_same (mast a) p h = ap (λ t. to_mast t.reply) (b.halves.here.alike a (all_allowed a) p h)
-  answers_same (hut a) p h = ap (λ t. to_hut t.reply) (b.halves.there.alike a (all_allowed a) (turned_past p) h)
+  answers_same (mast a) p h = ap (λ t. mast_answer t.reply) (b.halves.here.alike a (all_allowed a) p h)
+  answers_same (hut a) p h = ap (λ t. hut_answer t.reply) (b.halves.there.alike a (all_allowed a) (turned_past p) h)
   answers_same (settle i j) p h =
       ap (λ o. written o (settled C D (through ψ p)) p) (refusal_same i j)
       ∙ ap (λ q. written (settle_refusal c d i j) q p) ((settled_same b.halves).alike p h)

@@ -28,7 +28,7 @@ written x y s = record { out = s.out; back = s.back; out_air = rewritten x.writt
 
 -- what holds of every past of the link whose frames travel as they are
 abbrev pub SoundPast : {E F V W : Type 0} → Direction E V → Direction F W → Past E F → Type 0
-SoundPast c d p = Sound (shape c) (shape d) c.terms.cycle d.terms.cycle p.state p.misread
+SoundPast c d p = Sound (shape c) (shape d) c.terms.cycle d.terms.cycle p.state p.bytes_refused
 
 module _ {E F V W : Type 0} {c : Direction E V} {d : Direction F W} (x : Faithful c) (y : Faithful d) (z : CyclesFit c d) where
   abbrev C : machine.Setting E V

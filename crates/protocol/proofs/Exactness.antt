@@ -35,11 +35,11 @@ exactly c d window least m stream log enough short =
     }
 
 module _ {E F V W : Type 0} {c : Direction E V} {d : Direction F W} (x : Faithful c) (y : Faithful d) (ok : Drafted c.terms d.terms) (allow : AirsAllow c d) (m : ℕ) (short : m ≤ longest_cycle) where
-  loose : min c.terms.bound c.own_bound ≡ c.terms.bound
-  loose = omega (arith, allow.loose)
+  own_bound_enough : min c.terms.bound c.own_bound ≡ c.terms.bound
+  own_bound_enough = omega (arith, allow.own_bound_enough)
 
-  back_loose : min d.terms.bound d.own_bound ≡ d.terms.bound
-  back_loose = omega (arith, allow.back_loose)
+  back_own_bound_enough : min d.terms.bound d.own_bound ≡ d.terms.bound
+  back_own_bound_enough = omega (arith, allow.back_own_bound_enough)
 
   exact : c.terms.window + 1 ≤ m → Exact (at_cycle m c) d c.terms.window (λ p. p.state.out) (λ p. p.out) (least_cycle c.terms.window c.terms.bound d.terms.bound ≤ m)
   exact wide =
@@ -48,7 +48,7 @@ module _ {E F V W : Type 0} {c : Direction E V} {d : Direction F W} (x : Faithfu
       (λ s.
       let b = encodes (faithful_at m x) y (record { some = omega arith; short = short; back_some = omega (arith, ok.back.cycle_least); back_short = ok.back.cycle_most }) in
       let q = needed (shape c) (shape d) m d.terms.cycle ok.out.window_least wide allow.room allow.back_room x.element x.element_valid
-      (rw (loose, back_loose) s) in
+      (rw (own_bound_enough, back_own_bound_enough) s) in
       (q.0, λ step. q.1 (rw (after_same b q.0) at step)))
 
   back_exact : d.terms.window + 1 ≤ m → Exact c (at_cycle m d) d.terms.window (λ p. p.state.back) (λ p. p.back) (least_cycle d.terms.window d.terms.bound c.terms.bound ≤ m)
@@ -58,7 +58,7 @@ module _ {E F V W : Type 0} {c : Direction E V} {d : Direction F W} (x : Faithfu
       (λ s.
       let b = encodes x (faithful_at m y) (record { some = omega (arith, ok.out.cycle_least); short = ok.out.cycle_most; back_some = omega arith; back_short = short }) in
       let q = back_needed (shape d) (shape c) m c.terms.cycle ok.back.window_least wide allow.back_room allow.room y.element y.element_valid
-      (rw (back_loose, loose) s) in
+      (rw (back_own_bound_enough, own_bound_enough) s) in
       (q.0, λ step. q.1 (rw (after_same b q.0) at step)))
 
 pub promises : {E F V W : Type 0} → AlwaysPromises E F V W

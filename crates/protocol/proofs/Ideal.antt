@@ -45,8 +45,8 @@ module _ {E F V W : Type 0} {c : Direction E V} {d : Direction F W} (x : Faithfu
       ∙ ap (answers (plain c) (plain d) z) (after_same b h) ∙ answers_same b z (after (ideal c) (ideal d) h) (after_kept b h)
 
   -- no call was ever refused for the bytes of a frame
-  pub clear : (h : List (Call E F)) → (past c d h).misread ≡ 0
-  clear h = ap (λ p. p.misread) (after_same (encodes x y fit) h) ∙ (after_kept (encodes x y fit) h).clear
+  pub clear : (h : List (Call E F)) → (past c d h).bytes_refused ≡ 0
+  clear h = ap (λ p. p.bytes_refused) (after_same (encodes x y fit) h) ∙ (after_kept (encodes x y fit) h).clear
 
 pub like_ideal : {E F V W : Type 0} → LikeIdeal E F V W
 like_ideal c d x y ok h = record {

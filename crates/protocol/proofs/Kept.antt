@@ -7,9 +7,9 @@ use Rattle.air.proofs.Nth.{none_some, nth_push, all_nth}
 use Rattle.air.proofs.StepLaws.{answer_free}
 use Rattle.refusal.specs.declared.Refusal.{Refusal}
 use Rattle.protocol.specs.Windows.{Sender, first_slot, first_free, moved_on, endless}
-use Rattle.protocol.specs.Machine.{Setting as AnySetting, Act, accept_refusal, air_of, unless_refused, send_held, hear_waiting, step, with_air, act}
+use Rattle.protocol.specs.Machine.{Setting as AnySetting, Act, accept_refusal, air_of, act_unless, send_held, hear_waiting, step, with_air, act}
 use Rattle.protocol.specs.Machine.Act.{accept, send, bare, lose, deliver, repeat, pass}
-use Rattle.protocol.specs.Machine.Reply.{handed}
+use Rattle.protocol.specs.Machine.Reply.{passed_on}
 use Rattle.protocol.specs.Histories.{turned_past, after_step, does}
 use Rattle.protocol.proofs.Plain.{Shape, Packet, Past, Step, unending}
 use Rattle.protocol.proofs.Chains.{chain_without, chain_all}
@@ -53,10 +53,10 @@ module _ {E F : Type 0} {T : Shape E} {U : Shape F} (w : Windows T U) {p : Past 
   Then a t = LinkInv T U (after_step a t p)
 
   -- the same, with other frames in the air that goes out
-  airs_kept : {ws : List (Packet E)} {n : ℕ} → AirInv T U p.out.accepted p.state.out p.state.back ws → LinkInv T U (record p { state = with_air p.state ws; misread = n })
+  airs_kept : {ws : List (Packet E)} {n : ℕ} → AirInv T U p.out.accepted p.state.out p.state.back ws → LinkInv T U (record p { state = with_air p.state ws; bytes_refused = n })
   airs_kept q = record { out = h.out; back = h.back; out_air = q; back_air = h.back_air }
 
-  unless_kept : (a : Act E) (o : Option Refusal) (t : Step E F) → (o ≡ None → Then a t) → Then a (unless_refused o t p.state)
+  unless_kept : (a : Act E) (o : Option Refusal) (t : Step E F) → (o ≡ None → Then a t) → Then a (act_unless o t p.state)
   unless_kept a None t f = f refl
   unless_kept a (Some r) t f = airs_kept h.out_air
 
@@ -91,7 +91,7 @@ module _ {E F : Type 0} {T : Shape E} {U : Shape F} (w : Windows T U) {p : Past 
         back_air = air_same U T (record { grown = λ x q g. g; same = λ y. refl; lower = omega arith; further = x.further }) p.state.back_air h.back_air;
       }
 
-  pass_kept : (x : Option F) → first_slot p.state.back.receiver.slots ≡ x → Then pass (step (record p.state { back = record p.state.back { receiver = moved_on endless x p.state.back.receiver } }) (handed x))
+  pass_kept : (x : Option F) → first_slot p.state.back.receiver.slots ≡ x → Then pass (step (record p.state { back = record p.state.back { receiver = moved_on endless x p.state.back.receiver } }) (passed_on x))
   pass_kept None e = h
   pass_kept (Some f) e =
       let s' = p.state.back in

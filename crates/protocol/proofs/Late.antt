@@ -75,7 +75,7 @@ module _ {E F : Type 0} (t : Trial E F) where
     };
     out = record { accepted = replicate (l + h) t.e; passed = replicate b t.e };
     back = record { accepted = []; passed = [] };
-    misread = 0;
+    bytes_refused = 0;
   }
 
   -- some history leads there, and so does its mirror image at the turned link

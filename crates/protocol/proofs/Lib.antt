@@ -1,7 +1,7 @@
 mod Plain
 mod Numbers
 mod Chains
-mod Slots
+pub mod Slots
 mod Streams
 mod Frames
 mod Kept

@@ -43,7 +43,7 @@ module _ {E F V W : Type 0} {c : Direction E V} {d : Direction F W} (x : Faithfu
       let e : past c d (settle m k ∷ h) ≡ through (seen_as x y ok) q = past_ideal x y ok (settle m k ∷ h) ∙ ap (λ o. through (seen_as x y ok) (option_map_or (λ r. p) o q)) free in
       e
       ∙ ap (through (seen_as x y ok)) (settle_rests (limits x y ok).windows p can.room can.back_room (ideal_kept x y ok h))
-      ∙ ap (λ n. record (at_rest c d p.out.accepted p.back.accepted) { misread = n }) (ap (λ t. t.misread) (sym e) ∙ clear x y ok (settle m k ∷ h))
+      ∙ ap (λ n. record (at_rest c d p.out.accepted p.back.accepted) { bytes_refused = n }) (ap (λ t. t.bytes_refused) (sym e) ∙ clear x y ok (settle m k ∷ h))
       ∙ ap (λ t. at_rest c d t.out.accepted t.back.accepted) (sym (past_ideal x y ok h))
 
   settles : (h : List (Call E F)) (m k : ℕ) → CanSettle c d m k → Settles c d (past c d h) m k

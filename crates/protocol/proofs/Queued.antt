@@ -4,7 +4,7 @@ use Rattle.refusal.specs.declared.Refusal.{Refusal}
 use Rattle.protocol.specs.Drafts.{Drafted}
 use Rattle.protocol.specs.Machine.{Act, Reply, act, turned}
 use Rattle.protocol.specs.Machine.Act.{accept}
-use Rattle.protocol.specs.Machine.Reply.{done, handed}
+use Rattle.protocol.specs.Machine.Reply.{done, passed_on}
 use Rattle.protocol.specs.Histories.{Log, Past, Call, Answer, accepted_by, passed_by, settle_refusal, answers}
 use Rattle.protocol.specs.Histories.Call.{mast, hut, settle}
 use Rattle.protocol.specs.Delivery.{InStep, owed}
@@ -33,7 +33,7 @@ module _ {A : Type 0} where
   }
 
   passed_shown : (r : Reply A) (xs : List A) → passed_by r xs ≡ xs ++ passed_by r []
-  passed_shown (handed (Some f)) xs = refl
+  passed_shown (passed_on (Some f)) xs = refl
   passed_shown r xs = sym (append-nil xs)
 
 accepted_shown : {A B : Type 0} (r : Reply B) (a : Act A) (xs : List A) → accepted_by r a xs ≡ xs ++ accepted_by r a []

@@ -9,7 +9,7 @@ use Rattle.frame.specs.declared.Frame.TheVariants.{Bare, Laden}
 use Rattle.protocol.specs.Windows.{Sender, Receiver, cyclic, endless, slot_for, released, acknowledged, hearing, placement, ack_of, place_at, filled, first_free, first_slot, moved_on, next_free}
 use Rattle.protocol.specs.Machine.{Stream, Act, accept_refusal, send_held, hear, step, act}
 use Rattle.protocol.specs.Machine.Act.{accept, send, bare, lose, deliver, repeat, pass}
-use Rattle.protocol.specs.Machine.Reply.{handed}
+use Rattle.protocol.specs.Machine.Reply.{passed_on}
 use Rattle.protocol.specs.Laws.{rewritten}
 use Rattle.protocol.proofs.Plain.{Shape, Packet, Setting, State, Past, cycling, unending}
 use Rattle.protocol.proofs.Numbers.{ahead, behind}
@@ -142,8 +142,8 @@ module _ {E F : Type 0} {T : Shape E} {U : Shape F} {m m' : ℕ} (l : Limits T U
         ack_frame (Laden ack x e) = refl
 
   -- the first slot's element is passed alike
-  pass_alike : (x : Option F) (s : State E F) → step (record (φ s) { back = record { sender = (φ s).back.sender; receiver = moved_on (cyclic m') x (φ s).back.receiver } }) (handed x)
-      ≡ seen φ (step (record s { back = record { sender = s.back.sender; receiver = moved_on endless x s.back.receiver } }) (handed x))
+  pass_alike : (x : Option F) (s : State E F) → step (record (φ s) { back = record { sender = (φ s).back.sender; receiver = moved_on (cyclic m') x (φ s).back.receiver } }) (passed_on x)
+      ≡ seen φ (step (record s { back = record { sender = s.back.sender; receiver = moved_on endless x s.back.receiver } }) (passed_on x))
   pass_alike None s = refl
   pass_alike (Some f) s = rw (mod-add-mod s.back.receiver.base m' 1) refl
 

@@ -22,11 +22,11 @@ all_passed_log accepted = record { accepted = accepted; passed = accepted }
 
 -- a link at rest
 abbrev pub resting : {E F : Type 0} → ℕ → ℕ → List E → List F → ℕ → Past E F
-resting n n' accepted back_accepted misread = record {
+resting n n' accepted back_accepted bytes_refused = record {
   state = record { out = whole n accepted; back = whole n' back_accepted; out_air = []; back_air = [] };
   out = all_passed_log accepted;
   back = all_passed_log back_accepted;
-  misread = misread;
+  bytes_refused = bytes_refused;
 }
 
 -- no slot is filled from the number on that will be accepted next
@@ -142,7 +142,7 @@ module _ {E F : Type 0} {T : Shape E} {U : Shape F} (w : Windows T U) (p : Past 
         both_reported (from_other_end flushed c d (flushed c d (drained c d p))) h2 (both_flushed (drained c d p) h1 (all_drained p (later_self i)))
 
     -- nothing is left to do
-    at_rest : (q : Past E F) → Later T U p q → Told p q → q ≡ resting T.window U.window p.out.accepted p.back.accepted q.misread
+    at_rest : (q : Past E F) → Later T U p q → Told p q → q ≡ resting T.window U.window p.out.accepted p.back.accepted q.bytes_refused
     at_rest q h a =
         let x = rests h.inv.out h.accepted a.passed.base a.low in
         let y = rests h.inv.back h.back_accepted a.passed.back_base a.back_low in
@@ -150,11 +150,11 @@ module _ {E F : Type 0} {T : Shape E} {U : Shape F} (w : Windows T U) (p : Past 
           state = record { out = x.0 i; back = y.0 i; out_air = a.passed.out_air i; back_air = a.passed.back_air i };
           out = x.1 i;
           back = y.1 i;
-          misread = q.misread;
+          bytes_refused = q.bytes_refused;
         }
 
   -- settle leaves nothing to do
   pub settle_rests : 1 ≤ T.capacity → 1 ≤ U.capacity → LinkInv T U p →
-      settled c d p ≡ resting T.window U.window p.out.accepted p.back.accepted (settled c d p).misread
+      settled c d p ≡ resting T.window U.window p.out.accepted p.back.accepted (settled c d p).bytes_refused
   settle_rests room back_room i =
       at_rest room back_room (settled c d p) ((settled_same (later_keeps w p)).kept p (later_self i)) (all_told room back_room i)

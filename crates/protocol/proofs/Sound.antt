@@ -12,9 +12,9 @@ use Rattle.air.specs.Steps.{room_refusal, place_refusal, answer_refusal}
 use Rattle.air.proofs.Nth.{all_nth, all_without}
 use Rattle.frame.specs.declared.Frame.{Frame}
 use Rattle.protocol.specs.Windows.{cyclic, ack_of, acknowledged, next_free}
-use Rattle.protocol.specs.Machine.{Act, turned, air_of, accept_refusal, unless_refused, put, send_held, hear_waiting, act}
+use Rattle.protocol.specs.Machine.{Act, turned, air_of, accept_refusal, act_unless, put, send_held, hear_waiting, act}
 use Rattle.protocol.specs.Machine.Act.{accept, send, bare, lose, deliver, repeat, pass}
-use Rattle.protocol.specs.Histories.{counted, misread_by}
+use Rattle.protocol.specs.Histories.{counted, bytes_refused_by}
 use Rattle.protocol.specs.Promises.{Sayable}
 use Rattle.protocol.proofs.Chains.{all_overtaken}
 use Rattle.protocol.proofs.Plain.{Shape, Packet, State, Step, cycling}
@@ -25,10 +25,10 @@ pub record Fair {E : Type 0} (valid : E → Bool) (m m' : ℕ) (held : List E) (
   pub frames : AllByRecursion (λ (w : Packet E). Sayable valid (record { ack = m'; number = m }) w.frame) air
 
 -- both streams are fair, and no call was refused for the bytes of a frame
-pub record Sound {E F : Type 0} (T : Shape E) (U : Shape F) (m m' : ℕ) (s : State E F) (misread : ℕ) : Type 0 where
+pub record Sound {E F : Type 0} (T : Shape E) (U : Shape F) (m m' : ℕ) (s : State E F) (bytes_refused : ℕ) : Type 0 where
   pub out : Fair T.valid m m' s.out.sender.held s.out_air
   pub back : Fair U.valid m' m s.back.sender.held s.back_air
-  pub clear : misread ≡ 0
+  pub clear : bytes_refused ≡ 0
 
 pub turned_sound : {E F : Type 0} {T : Shape E} {U : Shape F} {m m' n : ℕ} {s : State E F} → Sound T U m m' s n → Sound U T m' m (turned s) n
 turned_sound h = record { out = h.back; back = h.out; clear = h.clear }
@@ -41,7 +41,7 @@ place_in (Some r) = place_of r
 module _ {E F : Type 0} {T : Shape E} {U : Shape F} {m m' n : ℕ} {s : State E F} (some : 1 ≤ m) (back_some : 1 ≤ m') (h : Sound T U m m' s n) where
   -- it holds after a step
   abbrev Then : Step E F → Type 0
-  Then t = Sound T U m m' t.state (misread_by t.reply n)
+  Then t = Sound T U m m' t.state (bytes_refused_by t.reply n)
 
   abbrev CanSay : Frame E → Type 0
   CanSay f = Sayable T.valid (record { ack = m'; number = m }) f
@@ -50,7 +50,7 @@ module _ {E F : Type 0} {T : Shape E} {U : Shape F} {m m' n : ℕ} {s : State E 
   CanSayAll ws = AllByRecursion (λ w. CanSay w.frame) ws
 
   -- a refusal without a place keeps it; without a refusal it must hold after the step
-  unless_sound : (o : Option Refusal) (t : Step E F) → place_in o ≡ None → (o ≡ None → Then t) → Then (unless_refused o t s)
+  unless_sound : (o : Option Refusal) (t : Step E F) → place_in o ≡ None → (o ≡ None → Then t) → Then (act_unless o t s)
   unless_sound None t e f = f refl
   unless_sound (Some r) t e f = record { out = h.out; back = h.back; clear = ap (λ x. counted x n) e ∙ h.clear }
 
@@ -82,7 +82,7 @@ module _ {E F : Type 0} {T : Shape E} {U : Shape F} {m m' n : ℕ} {s : State E 
   hear_sound (Some w) rest q = record { out = left q; back = record { elements = released_sound (ack_of w.frame); frames = h.back.frames }; clear = h.clear }
 
   answered_sound : (k : ℕ) (rest : List (Packet E)) → CanSayAll rest →
-      Then (unless_refused (answer_refusal k (air_of (cycling T m) s.out_air)) (hear_waiting (cycling T m) (cycling U m') (slice_get s.out_air k) rest s) s)
+      Then (act_unless (answer_refusal k (air_of (cycling T m) s.out_air)) (hear_waiting (cycling T m) (cycling U m') (slice_get s.out_air k) rest s) s)
   answered_sound k rest q =
       unless_sound (answer_refusal k (air_of (cycling T m) s.out_air)) _ (grind (arith, nat_tests)) (λ _. hear_sound (slice_get s.out_air k) rest q)
 

@@ -9,22 +9,22 @@ use Rattle.frame.specs.declared.Side.{Side}
 use Rattle.frame.specs.declared.Side.TheVariants.{Mast, Hut}
 use Rattle.protocol.specs.declared.terms.Terms.{Terms}
 
--- the least cycle of a stream with this window and this bound, where the other stream has the bound other. Two windows and the bound
+-- the least cycle of a stream with this window and this bound, where the other stream has this other bound. Two windows and the bound
 -- keep its frames apart; a window for each time that an acknowledgement may be overtaken, one window and one number more keep its
 -- acknowledgements apart
-abbrev pub least_cycle : (window bound other : ℕ) → ℕ
-least_cycle window bound other = max (2 * window + bound) ((other + 1) * window + 1)
+abbrev pub least_cycle : (window bound other_bound : ℕ) → ℕ
+least_cycle window bound other_bound = max (2 * window + bound) ((other_bound + 1) * window + 1)
 
 -- the longest cycle that is drafted; its numbers fit the two bytes that a frame has for each
 abbrev pub longest_cycle : ℕ
 longest_cycle = 16384
 
--- the terms of a stream are within the limits, where the other stream has the bound other
-pub record InLimits (t : Terms) (other : ℕ) : Type 0 where
+-- the terms of a stream are within the limits, where the other stream has this other bound
+pub record InLimits (t : Terms) (other_bound : ℕ) : Type 0 where
   pub window_least : 1 ≤ t.window
   pub window_most : t.window ≤ 32
   pub bound_most : t.bound ≤ 255
-  pub cycle_least : least_cycle t.window t.bound other ≤ t.cycle
+  pub cycle_least : least_cycle t.window t.bound other_bound ≤ t.cycle
   pub cycle_most : t.cycle ≤ longest_cycle
 
 -- the terms of both streams are within the limits
@@ -48,9 +48,9 @@ format_of side t u = record {
 abbrev pub window_fits : Terms → Bool
 window_fits t = nat_le 1 t.window && nat_le t.window 32
 
--- a cycle is within its limits, where the other stream has the bound other
-abbrev pub cycle_fits : Terms → (other : ℕ) → Bool
-cycle_fits t other = nat_le (least_cycle t.window t.bound other) t.cycle && nat_le t.cycle longest_cycle
+-- a cycle is within its limits, where the other stream has this other bound
+abbrev pub cycle_fits : Terms → (other_bound : ℕ) → Bool
+cycle_fits t other_bound = nat_le (least_cycle t.window t.bound other_bound) t.cycle && nat_le t.cycle longest_cycle
 
 -- a refusal, unless a test holds
 abbrev pub refused_unless : Bool → Refusal → Option Refusal

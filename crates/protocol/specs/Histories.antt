@@ -9,7 +9,7 @@ use Rattle.refusal.specs.declared.Refusal.TheVariants.{ListTooShort, NoRoomInAir
 use Rattle.protocol.specs.Drafts.{refused_unless}
 use Rattle.protocol.specs.Machine.{Setting, State, Step, Act, Reply, turned, new_stream, act}
 use Rattle.protocol.specs.Machine.Act.{accept, send, bare, deliver, pass}
-use Rattle.protocol.specs.Machine.Reply.{done, handed, refused}
+use Rattle.protocol.specs.Machine.Reply.{done, passed_on, refused}
 
 -- all elements that a stream has accepted, and all that it has passed, each in the sequence of the calls
 pub record Log (E : Type 0) : Type 0 where
@@ -22,11 +22,11 @@ pub record Past (E F V W : Type 0) : Type 0 where
   pub state : State E F V W
   pub out : Log E
   pub back : Log F
-  pub misread : ℕ
+  pub bytes_refused : ℕ
 
 -- the same as the other end sees it
 abbrev pub turned_past : {E F V W : Type 0} → Past E F V W → Past F E W V
-turned_past p = record { state = turned p.state; out = p.back; back = p.out; misread = p.misread }
+turned_past p = record { state = turned p.state; out = p.back; back = p.out; bytes_refused = p.bytes_refused }
 
 -- what a stream has accepted, after a reply to an act of its sender
 abbrev pub accepted_by : {E F : Type 0} → Reply F → Act E → List E → List E
@@ -35,7 +35,7 @@ accepted_by r a xs = xs
 
 -- what it has passed, after a reply to its receiver
 abbrev pub passed_by : {F : Type 0} → Reply F → List F → List F
-passed_by (handed (Some f)) xs = xs ++ (f ∷ [])
+passed_by (passed_on (Some f)) xs = xs ++ (f ∷ [])
 passed_by r xs = xs
 
 -- one more, for a refusal that has a place
@@ -44,9 +44,9 @@ counted None k = k
 counted (Some place) k = suc k
 
 -- how often a call was refused for the bytes of a frame, after a reply
-abbrev pub misread_by : {F : Type 0} → Reply F → ℕ → ℕ
-misread_by (refused r) k = counted (place_of r) k
-misread_by r k = k
+abbrev pub bytes_refused_by : {F : Type 0} → Reply F → ℕ → ℕ
+bytes_refused_by (refused r) k = counted (place_of r) k
+bytes_refused_by r k = k
 
 module _ {E F V W : Type 0} where
   -- the past after an act that took this step
@@ -55,7 +55,7 @@ module _ {E F V W : Type 0} where
     state = t.state;
     out = record { accepted = accepted_by t.reply a p.out.accepted; passed = p.out.passed };
     back = record { accepted = p.back.accepted; passed = passed_by t.reply p.back.passed };
-    misread = misread_by t.reply p.misread;
+    bytes_refused = bytes_refused_by t.reply p.bytes_refused;
   }
 
   -- one act of the end that looks
@@ -118,8 +118,8 @@ pub data Call (E F : Type 0) : Type 0 where
 
 -- what a call answers: what the act answers; of settle, what it writes into the mast's list and into the hut's, or why it refuses
 pub data Answer (E F : Type 0) : Type 0 where
-  to_mast : Reply F → Answer E F
-  to_hut : Reply E → Answer E F
+  mast_answer : Reply F → Answer E F
+  hut_answer : Reply E → Answer E F
   settled_lists : List F → List E → Answer E F
   settle_refused : Refusal → Answer E F
 
@@ -138,8 +138,8 @@ module _ {E F V W : Type 0} where
 
   -- its answer
   abbrev pub answers : Setting E V → Setting F W → Call E F → Past E F V W → Answer E F
-  answers c d (mast a) p = to_mast (act c d a p.state).reply
-  answers c d (hut a) p = to_hut (act d c a (turned p.state)).reply
+  answers c d (mast a) p = mast_answer (act c d a p.state).reply
+  answers c d (hut a) p = hut_answer (act d c a (turned p.state)).reply
   answers c d (settle m h) p =
       let q = settled c d p in
       option_map_or settle_refused (settle_refusal c d m h)
@@ -151,7 +151,7 @@ module _ {E F V W : Type 0} where
     state = record { out = new_stream c.window; back = new_stream d.window; out_air = []; back_air = [] };
     out = record { accepted = []; passed = [] };
     back = record { accepted = []; passed = [] };
-    misread = 0;
+    bytes_refused = 0;
   }
 
   -- the past after a history, whose newest call stands first

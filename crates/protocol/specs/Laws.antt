@@ -9,7 +9,7 @@ use Rattle.protocol.specs.Drafts.{Drafted, longest_cycle}
 use Rattle.protocol.specs.Machine.{Setting, Stream, as_they_are}
 use Rattle.protocol.specs.Histories.{Log, Past, Call, Answer, answers, after, accepted_by, passed_by}
 use Rattle.protocol.specs.Histories.Call.{mast, hut, settle}
-use Rattle.protocol.specs.Histories.Answer.{to_mast, to_hut, settled_lists}
+use Rattle.protocol.specs.Histories.Answer.{mast_answer, hut_answer, settled_lists}
 use Rattle.protocol.specs.Delivery.{owed}
 use Rattle.protocol.specs.Promises.{Direction, Faithful, CanSettle, opened, past}
 
@@ -65,7 +65,7 @@ rewritten_past f g p = record {
   state = record { out = p.state.out; back = p.state.back; out_air = rewritten f p.state.out_air; back_air = rewritten g p.state.back_air };
   out = p.out;
   back = p.back;
-  misread = p.misread;
+  bytes_refused = p.bytes_refused;
 }
 
 -- cycles that a frame has room for, however short
@@ -131,15 +131,15 @@ AlwaysCounted E F V W =
 
 -- what a call and its answer show to be accepted and passed of the stream from mast to hut
 abbrev pub out_shown : {E F : Type 0} → Call E F → Answer E F → Log E
-out_shown (mast a) (to_mast r) = record { accepted = accepted_by r a []; passed = [] }
-out_shown (hut a) (to_hut r) = record { accepted = []; passed = passed_by r [] }
+out_shown (mast a) (mast_answer r) = record { accepted = accepted_by r a []; passed = [] }
+out_shown (hut a) (hut_answer r) = record { accepted = []; passed = passed_by r [] }
 out_shown (settle m h) (settled_lists fs es) = record { accepted = []; passed = es }
 out_shown x y = record { accepted = []; passed = [] }
 
 -- and of the stream from hut to mast
 abbrev pub back_shown : {E F : Type 0} → Call E F → Answer E F → Log F
-back_shown (hut a) (to_hut r) = record { accepted = accepted_by r a []; passed = [] }
-back_shown (mast a) (to_mast r) = record { accepted = []; passed = passed_by r [] }
+back_shown (hut a) (hut_answer r) = record { accepted = accepted_by r a []; passed = [] }
+back_shown (mast a) (mast_answer r) = record { accepted = []; passed = passed_by r [] }
 back_shown (settle m h) (settled_lists fs es) = record { accepted = []; passed = fs }
 back_shown x y = record { accepted = []; passed = [] }
 

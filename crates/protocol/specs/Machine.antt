@@ -61,8 +61,8 @@ new_stream window = record {
 abbrev pub air_of : {E V : Type 0} → Setting E V → List (Waiting V) → AirState V
 air_of c ws = record { waiting = ws; capacity = c.capacity; bound = c.bound }
 
--- what an end can do: accept an element, send the k-th held one, send a bare frame; to its air, lose, deliver or repeat frame k; and
--- pass on what it has received
+-- what an end can do: accept an element, send the k-th held one, send a bare frame; with the air that carries what it sends, lose frame
+-- k, or have the other end hear it, by deliver or repeat; and pass on what it has received
 pub data Act (E : Type 0) : Type 0 where
   accept : E → Act E
   send : ℕ → Act E
@@ -77,7 +77,7 @@ pub data Act (E : Type 0) : Type 0 where
 pub data Reply (F : Type 0) : Type 0 where
   done : Reply F
   heard : ℕ → Placement → Reply F
-  handed : Option F → Reply F
+  passed_on : Option F → Reply F
   refused : Refusal → Reply F
 
 -- the state and the reply after an act
@@ -96,9 +96,9 @@ module _ {E F V W : Type 0} where
   step s r = record { state = s; reply = r }
 
   -- a step, unless there is a cause to refuse it: then nothing changes
-  abbrev pub unless_refused : Option Refusal → Step E F V W → State E F V W → Step E F V W
-  unless_refused None t s = t
-  unless_refused (Some refusal) t s = step s (refused refusal)
+  abbrev pub act_unless : Option Refusal → Step E F V W → State E F V W → Step E F V W
+  act_unless None t s = t
+  act_unless (Some refusal) t s = step s (refused refusal)
 
   -- the state with other frames in the air of the stream that goes out
   abbrev pub with_air : State E F V W → List (Waiting V) → State E F V W
@@ -111,7 +111,7 @@ module _ {E F V W : Type 0} where
 
   -- a frame is put into the air, if there is room
   abbrev pub put : Setting E V → Frame E → State E F V W → Step E F V W
-  put c f s = unless_refused (room_refusal (air_of c s.out_air)) (join c (c.codec.write f) s) s
+  put c f s = act_unless (room_refusal (air_of c s.out_air)) (join c (c.codec.write f) s) s
 
   -- the k-th held element, if there is one, is sent
   abbrev pub send_held : Setting E V → Setting F W → ℕ → Option E → State E F V W → Step E F V W
@@ -140,18 +140,18 @@ module _ {E F V W : Type 0} where
 
   -- the other end hears frame k, unless the air refuses to answer it, and these frames are left in the air
   abbrev pub hear_at : Setting E V → Setting F W → ℕ → List (Waiting V) → State E F V W → Step E F V W
-  hear_at c d k rest s = unless_refused (answer_refusal k (air_of c s.out_air)) (hear_waiting c d (slice_get s.out_air k) rest s) s
+  hear_at c d k rest s = act_unless (answer_refusal k (air_of c s.out_air)) (hear_waiting c d (slice_get s.out_air k) rest s) s
 
   -- one act of the end that looks, which sends with the settings c and receives with d
   abbrev pub act : Setting E V → Setting F W → Act E → State E F V W → Step E F V W
   act c d (accept e) s =
-      unless_refused (accept_refusal c e s.out.sender) (step (record s { out = record s.out { sender = holding e s.out.sender } }) done) s
+      act_unless (accept_refusal c e s.out.sender) (step (record s { out = record s.out { sender = holding e s.out.sender } }) done) s
   act c d (send k) s = send_held c d k (slice_get s.out.sender.held k) s
   act c d bare s = put c (Bare (next_free d.numbers s.back.receiver)) s
   act c d (lose k) s =
-      unless_refused (place_refusal k (air_of c s.out_air)) (step (with_air s (lost k (air_of c s.out_air)).waiting) done) s
+      act_unless (place_refusal k (air_of c s.out_air)) (step (with_air s (lost k (air_of c s.out_air)).waiting) done) s
   act c d (deliver k) s = hear_at c d k (taken k (air_of c s.out_air)).waiting s
   act c d (repeat k) s = hear_at c d k (repeated k (air_of c s.out_air)).waiting s
   act c d pass s =
       let x = first_slot s.back.receiver.slots in
-      step (record s { back = record s.back { receiver = moved_on d.numbers x s.back.receiver } }) (handed x)
+      step (record s { back = record s.back { receiver = moved_on d.numbers x s.back.receiver } }) (passed_on x)

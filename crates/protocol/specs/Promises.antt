@@ -64,8 +64,8 @@ rested t accepted = record {
 pub record AirsAllow {E F V W : Type 0} (c : Direction E V) (d : Direction F W) : Type 0 where
   pub room : 2 ≤ c.capacity
   pub back_room : 2 ≤ d.capacity
-  pub loose : c.terms.bound ≤ c.own_bound
-  pub back_loose : d.terms.bound ≤ d.own_bound
+  pub own_bound_enough : c.terms.bound ≤ c.own_bound
+  pub back_own_bound_enough : d.terms.bound ≤ d.own_bound
 
 module _ {E F V W : Type 0} (c : Direction E V) (d : Direction F W) where
   -- the past of a link after a history
@@ -78,7 +78,7 @@ module _ {E F V W : Type 0} (c : Direction E V) (d : Direction F W) where
     state = record { out = rested c.terms accepted; back = rested d.terms back_accepted; out_air = []; back_air = [] };
     out = record { accepted = accepted; passed = accepted };
     back = record { accepted = back_accepted; passed = back_accepted };
-    misread = 0;
+    bytes_refused = 0;
   }
 
   -- settle can be done with lists of m and h places: each has two windows of the stream that ends there, and each air has room for a frame
@@ -102,7 +102,7 @@ module _ {E F V W : Type 0} (c : Direction E V) (d : Direction F W) where
     pub out : Delivers c.terms.window p.state.out p.out
     pub back : Delivers d.terms.window p.state.back p.back
     pub settles : (m h : ℕ) → CanSettle m h → Settles p m h
-    pub understood : p.misread ≡ 0
+    pub understood : p.bytes_refused ≡ 0
 
   -- a limit on the cycle of one stream is exact; stream and log pick that stream out of a past. The stream is in step after every history
   -- exactly when the limit holds, and it delivers after every history exactly then. Where the limit does not hold, there is a history after

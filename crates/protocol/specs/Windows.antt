@@ -44,7 +44,8 @@ pub record Releases (m low held ack released : ℕ) : Type 0 where
   pub all : (d : ℕ) → LiesAfter m low ack d → d ≤ held → released ≡ d
   pub none : (d : ℕ) → LiesAfter m low ack d → held < d → released ≡ 0
 
--- an element with this number goes into the slot of the window that stands for it, where slot d stands for base + d; else nowhere
+-- an element with this number goes into the slot of the window that stands for it, where slot d stands for base + d; else nowhere. An
+-- element with a number never makes a frame bare
 abbrev pub GoesTo : (m base window number : ℕ) → Placement → Type 0
 GoesTo m base window number (Slot d) = LiesAfter m base number d × (d < window)
 GoesTo m base window number Outside = (d : ℕ) → LiesAfter m base number d → window ≤ d

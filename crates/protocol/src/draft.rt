@@ -1,4 +1,4 @@
-//! The draft: settings of both streams that are within the limits.
+//! The draft: terms of both streams that are within the limits.
 ghost use Rattle.std.specs.Prelude.{◌≡◌, ◌↔◌, IfOk, IsOk};
 ghost use Rattle.std.specs.Result.{result_err};
 ghost use Rattle.protocol.specs.Drafts.{Drafted, cycle_fits, draft_refusal, format_of, refused_unless, sent_by, window_fits};
@@ -18,7 +18,7 @@ const MAX_BOUND: u32 = 255;
 /// The longest cycle.
 const MAX_CYCLE: u32 = 16_384;
 
-/// The settings of both streams, on which both ends agree. A draft that exists is within the limits. It is moved and not copied, since one
+/// The terms of both streams, on which both ends agree. A draft that exists is within the limits. It is moved and not copied, since one
 /// link is opened from it.
 #[derive(Drop, PartialEq, Eq, Debug)]
 pub struct Draft {
@@ -42,11 +42,11 @@ impl Terms {
         (1..=MAX_WINDOW).contains(&self.window)
     }
 
-    /// Whether the cycle is at least the least one, where the other stream has the bound `other`, and at most 16,384.
-    fn cycle_fits(&self, other: u32) -> bool
-        ensures { result ≡ cycle_fits self.now other }
+    /// Whether the cycle is at least the least one, where the other stream has the bound `other_bound`, and at most 16,384.
+    fn cycle_fits(&self, other_bound: u32) -> bool
+        ensures { result ≡ cycle_fits self.now other_bound }
     {
-        u64::from(self.cycle) >= least_cycle(self.window, self.bound, other)
+        u64::from(self.cycle) >= least_cycle(self.window, self.bound, other_bound)
             && self.cycle <= MAX_CYCLE
     }
 }
@@ -77,21 +77,21 @@ impl Draft {
         })
     }
 
-    /// The settings of the stream from mast to hut.
+    /// The terms of the stream from mast to hut.
     pub fn hut_bound(&self) -> Terms
         ensures { result ≡ self.now.hut_bound }
     {
         self.hut_bound
     }
 
-    /// The settings of the stream from hut to mast.
+    /// The terms of the stream from hut to mast.
     pub fn mast_bound(&self) -> Terms
         ensures { result ≡ self.now.mast_bound }
     {
         self.mast_bound
     }
 
-    /// The settings of the stream that a side sends.
+    /// The terms of the stream that a side sends.
     pub fn sent_by(&self, side: Side) -> Terms
         ensures { result ≡ sent_by side self.now.hut_bound self.now.mast_bound }
     {

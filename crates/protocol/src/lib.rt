@@ -1,5 +1,8 @@
 //! The protocol of a link: the draft that both ends agree on, the arithmetic of numbers that start over, and what is proved of
 //! every link over its whole past.
+//!
+//! It must know nothing of bytes and kinds of element, nor of the code of an end or a link. The link that it speaks of is a machine in
+//! the definitions: its elements are of any types, its frames are written in any way that reads them back, its airs are their lists.
 #![tactic(auto)]
 
 mod cycle;

@@ -1,4 +1,7 @@
-//! Why a call says no: one enum for the calls of all crates. A call that refuses changes nothing.
+//! Why a call says no: one enum for the calls of all crates. Each cause has a number and a text, and those that are about the bytes
+//! of a frame have a place.
+//!
+//! It stands on no other crate. It must know nothing of when a cause applies: each crate says that of its own calls.
 #![tactic(auto)]
 
 ghost use Rattle.std.specs.Prelude.{◌≡◌};
@@ -8,7 +11,7 @@ use std::error::Error;
 use std::fmt;
 
 /// The causes, in the order of their numbers. A call to which several apply answers the one with the smallest number, and
-/// of equal numbers the one with the lowest place.
+/// of equal numbers the one with the lowest place; but putting a frame into an air tests 9 before 6.
 #[derive(Clone, Copy, PartialEq, Eq, Debug)]
 pub enum Refusal {
     /// 1: a drafted window is not 1 to 32.

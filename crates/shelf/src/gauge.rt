@@ -11,7 +11,7 @@ impl<'a> Gauge for Shelf<'a> {
     ghost sound = { shelf_sound };
 
     fn capacity(&self) -> usize {
-        self.slots.capacity()
+        self.cells.capacity()
     }
 
     fn bound(&self) -> u8 {
@@ -19,13 +19,13 @@ impl<'a> Gauge for Shelf<'a> {
     }
 
     fn waiting(&self) -> usize {
-        self.slots.used
+        self.cells.used
     }
 
     fn count(&self, k: usize) -> Result<u8, Refusal> {
         if k >= self.waiting() {
             return Err(Refusal::NoFrame);
         }
-        Ok(self.slots.count(k))
+        Ok(self.cells.count(k))
     }
 }

@@ -25,6 +25,7 @@ tenths z = sign_text z ++ (decimal (unsigned_abs z / 10) ++ (codes "." ++ decima
 abbrev pub hundredths : ℤ → List ℕ
 hundredths z = sign_text z ++ (decimal (unsigned_abs z / 100) ++ (codes "." ++ (decimal (unsigned_abs z / 10 % 10) ++ decimal (unsigned_abs z % 10))))
 
+-- what is printed of a number with a decimal point
 abbrev pub decimal_text : Decimal → Option (List ℕ)
 decimal_text (Tenths z) = Some (tenths z)
 decimal_text (Hundredths z) = Some (hundredths z)
@@ -33,6 +34,7 @@ decimal_text (Hundredths z) = Some (hundredths z)
 abbrev pub reading_words : Reading → List ℕ
 reading_words r = tenths (pos r.time) ++ (codes " s, " ++ (tenths r.height ++ (codes " m, " ++ (hundredths r.temperature ++ (codes " C, " ++ (tenths (pos r.humidity) ++ (codes " %, " ++ (tenths (pos r.pressure) ++ codes " hPa"))))))))
 
+-- what is printed of a reading
 abbrev pub reading_text : Told Reading → Option (List ℕ)
 reading_text t = Some (reading_words t.0)
 
@@ -42,6 +44,7 @@ order_words (Tune khz) = codes "tune to " ++ (decimal khz ++ codes " kHz")
 order_words (Point bearing elevation) = codes "point to bearing " ++ (hundredths (pos bearing) ++ (codes " and elevation " ++ (hundredths (pos elevation) ++ codes " degrees")))
 order_words (Note number) = codes "note " ++ decimal number
 
+-- what is printed of an order
 abbrev pub order_text : Told Order → Option (List ℕ)
 order_text t = Some (order_words t.0)
 
@@ -50,6 +53,7 @@ abbrev pub frame_words : Frame Reading → List ℕ
 frame_words (Bare ack) = codes "acknowledgement " ++ (decimal ack ++ codes " alone.")
 frame_words (Laden ack number element) = codes "acknowledgement " ++ (decimal ack ++ (codes " and reading number " ++ (decimal number ++ (codes ":\n    " ++ reading_words element))))
 
+-- what is printed of a frame with a reading
 abbrev pub frame_text : Told (Frame Reading) → Option (List ℕ)
 frame_text t = Some (frame_words t.0)
 
@@ -63,5 +67,6 @@ abbrev pub heard_words : List ℕ → Result (Frame Reading) Refusal → List �
 heard_words who (Ok frame) = who ++ (codes " hears " ++ frame_words frame)
 heard_words who (Err refusal) = who ++ (codes " hears nothing: " ++ (text_of (shown_of refusal) ++ codes "."))
 
+-- what is printed of what a listener made of bytes
 abbrev pub heard_text : Heard → Option (List ℕ)
 heard_text h = Some (heard_words h.who.now h.answer)

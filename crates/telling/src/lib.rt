@@ -1,5 +1,7 @@
 //! How a flight is told to people: numbers, readings, orders and what a listener makes of bytes, in plain text, and the cycles of the
 //! flight that is told.
+//!
+//! It must know nothing of airs, drafts and links: it is given values and bytes, and puts them into words.
 #![tactic(auto)]
 
 ghost use Rattle.std.specs.Prelude.{◌≡◌};
@@ -13,7 +15,7 @@ use frame::{Cycles, Format, Frame, Side, hear};
 use refusal::Refusal;
 use std::fmt;
 
-/// Hut-bound frames: the mast sends them on a cycle of 11, and acknowledges the other stream's cycle of 17.
+/// Hut-bound frames: the mast numbers them on a cycle of 11, and their acknowledgements are on the other stream's cycle of 17.
 pub const HUT_BOUND: Format = Format {
     sender: Side::Mast,
     cycles: Cycles {

@@ -12,6 +12,7 @@ use Rattle.tight.specs.Tightened.{capped, tightened}
 abbrev pub tight_state : {A : Type 0} → (A → AirState Bytes) → Tight A → AirState Bytes
 tight_state state t = tightened t.given (state t.below)
 
+-- a fine frame is fine under any bound when its count is capped there
 capped_fine : (own bound : ℕ) (ws : List (Waiting Bytes)) → AllByRecursion (Fine own) ws → AllByRecursion (Fine bound) (map (capped bound) ws)
 capped_fine own bound [] all = tt
 capped_fine own bound (w ∷ ws) all = ((all.0.0, all.0.1, all.0.2, omega arith), capped_fine own bound ws all.1)

@@ -1,4 +1,6 @@
 //! The tight air: any other air, held to a bound that may be smaller than its own.
+//!
+//! It must know nothing of what a frame says, nor of how the air below keeps its frames: it goes by what every air promises.
 #![tactic(auto)]
 
 ghost use Rattle.std.specs.Prelude.{◌≡◌, min};
@@ -31,7 +33,7 @@ impl<A: Air> Tight<A> {
     }
 
     /// The air below, with the frames that wait in it, held to its own bound again.
-    pub fn release(self) -> A
+    pub fn into_inner(self) -> A
         ensures { result ≡ self.below }
     {
         self.below

@@ -4,7 +4,7 @@ use air::{Air, Gauge, Lent, clear, most_overtaken};
 use octets::LONGEST;
 use pool::Pool;
 use refusal::Refusal;
-use shelf::{SLOT, Shelf};
+use shelf::{CELL, Shelf};
 use std::test::Fail;
 use tight::Tight;
 
@@ -83,7 +83,7 @@ fn behaves<A: Air>(air: &mut A) -> Result<(), Fail> {
 #[test]
 fn every_air_behaves_alike() -> Result<(), Fail> {
     behaves(&mut Pool::new(2))?;
-    let mut memory = [1; 3 * SLOT + 35];
+    let mut memory = [1; 3 * CELL + 35];
     let mut shelf = Shelf::new(&mut memory, 2);
     behaves(&mut shelf)?;
     behaves(&mut Tight::new(Pool::new(2), 200))?;
@@ -130,7 +130,7 @@ fn tight_airs_start_empty() -> Result<(), Fail> {
     let mut tight = Tight::new(pool, 1);
     check_eq(tight.waiting(), 0)?;
     tight.put(b"after")?;
-    let mut pool = tight.release();
+    let mut pool = tight.into_inner();
     let mut area = [0; LONGEST];
     check_eq((pool.waiting(), pool.bound()), (1, 9))?;
     check_eq(pool.take(0, &mut area)?, 5)?;
@@ -176,7 +176,7 @@ fn agree<A: Air, B: Air>(a: &mut A, b: &mut B) -> Result<(), Fail> {
 
 #[test]
 fn airs_agree_call_by_call() -> Result<(), Fail> {
-    let mut memory = [3; 16 * SLOT];
+    let mut memory = [3; 16 * CELL];
     let mut shelf = Shelf::new(&mut memory, 2);
     agree(&mut Pool::new(2), &mut shelf)?;
     agree(&mut Pool::new(5), &mut Tight::new(Pool::new(200), 5))?;

@@ -11,7 +11,7 @@ use octets::check_of;
 use pool::Pool;
 use protocol::{Draft, Placement, Terms};
 use refusal::Refusal;
-use shelf::{SLOT, Shelf};
+use shelf::{CELL, Shelf};
 use std::fmt::Debug;
 use std::test::Fail;
 use tight::Tight;
@@ -215,7 +215,7 @@ fn ends_over_airs(rt: HostRuntime) -> Result<(), Fail> {
     let draft = drafted()?;
     let mut mast = End::<Reading, Order>::new(rt.alloc(), &draft, Side::Mast)?;
     let mut hut = End::<Order, Reading>::new(rt.alloc(), &draft, Side::Hut)?;
-    let mut memory = [0; SLOT];
+    let mut memory = [0; CELL];
     let mut to_hut = Tight::new(Shelf::new(&mut memory, 9), 3);
     let mut to_mast = Tight::new(Pool::new(9), 0);
     mast.accept(reading(1))?;

@@ -1,7 +1,10 @@
-//! Tests by examples: the ends of each field's range, the check against a plain sum, frames at the ends of their lengths, frames with one
-//! thing wrong, airs one against another, drafts at the ends of their limits, numbers that start over against a plain search, every call of a
-//! sender, a receiver, an end and a link, late frames at the limits of a cycle, and long flights of a link beside a plain model. The code is
-//! proved to answer what the definitions say; these hold both against values worked out by hand.
+//! Tests by examples: the ends of each field's range, the check against a plain sum, frames at the ends of their lengths, frames with
+//! one thing wrong, airs one against another, drafts at the ends of their limits, numbers that start over against a plain search, every
+//! call of a sender, a receiver, an end and a link, late frames at the limits of a cycle, long flights of a link beside a plain model,
+//! and the text of values that no program prints. The code is proved to answer what the definitions say; these hold both against values
+//! worked out by hand.
+//!
+//! It must know nothing of how the other crates are made: it makes public calls alone. The plain model knows no cycles and no bytes.
 #![tactic(auto)]
 
 #[cfg(test)]
@@ -13,9 +16,13 @@ mod checks;
 #[cfg(test)]
 mod drafts;
 #[cfg(test)]
+mod elements;
+#[cfg(test)]
 mod ends;
 #[cfg(test)]
 mod flights;
+#[cfg(test)]
+mod frames;
 #[cfg(test)]
 mod limits;
 #[cfg(test)]
@@ -23,214 +30,6 @@ mod links;
 #[cfg(test)]
 mod model;
 #[cfg(test)]
-mod windows;
-
+mod printing;
 #[cfg(test)]
-mod tests {
-    use crate::checks::number_and_place;
-    use element::Kind;
-    use element::order::Order;
-    use element::reading::Reading;
-    use frame::{Cycles, Format, Frame, LONGEST, Side, hear, write};
-    use octets::check_of;
-    use std::test::Fail;
-
-    const CALM: Reading = Reading {
-        time: 0,
-        height: 0,
-        temperature: 0,
-        humidity: 0,
-        pressure: 0,
-    };
-
-    const HUT_SENDS: Format = Format {
-        sender: Side::Hut,
-        cycles: Cycles { ack: 8, number: 5 },
-    };
-
-    fn at_height(height: i32) -> Reading {
-        Reading { height, ..CALM }
-    }
-
-    fn at_temperature(temperature: i16) -> Reading {
-        Reading {
-            temperature,
-            ..CALM
-        }
-    }
-
-    fn wet(humidity: u16, pressure: u16) -> Reading {
-        Reading {
-            humidity,
-            pressure,
-            ..CALM
-        }
-    }
-
-    /// The lowest and the highest value of each field are in range, and one beyond is not.
-    #[test]
-    fn readings_at_the_ends_of_their_ranges(rt: HostRuntime) {
-        let table = [
-            (
-                Reading {
-                    time: u32::MAX,
-                    ..CALM
-                },
-                None,
-            ),
-            (at_height(-5_000), None),
-            (at_height(-5_001), Some(4)),
-            (at_height(500_000), None),
-            (at_height(500_001), Some(4)),
-            (at_temperature(-12_000), None),
-            (at_temperature(-12_001), Some(8)),
-            (at_temperature(6_000), None),
-            (at_temperature(6_001), Some(8)),
-            (wet(1_000, 11_000), None),
-            (wet(1_001, 11_000), Some(10)),
-            (wet(1_000, 11_001), Some(12)),
-            (wet(1_001, 11_001), Some(10)),
-        ];
-        for (reading, fault) in table {
-            assert_eq!(rt; reading.fault(), fault);
-        }
-    }
-
-    #[test]
-    fn orders_at_the_ends_of_their_ranges(rt: HostRuntime) {
-        let table = [
-            (Order::Tune { khz: 400_149 }, Some(1)),
-            (Order::Tune { khz: 400_150 }, None),
-            (Order::Tune { khz: 406_000 }, None),
-            (Order::Tune { khz: 406_001 }, Some(1)),
-            (
-                Order::Point {
-                    bearing: 35_999,
-                    elevation: 9_000,
-                },
-                None,
-            ),
-            (
-                Order::Point {
-                    bearing: 36_000,
-                    elevation: 9_001,
-                },
-                Some(1),
-            ),
-            (
-                Order::Point {
-                    bearing: 35_999,
-                    elevation: 9_001,
-                },
-                Some(3),
-            ),
-            (Order::Note { number: u32::MAX }, None),
-        ];
-        for (order, fault) in table {
-            assert_eq!(rt; order.fault(), fault);
-        }
-        assert_eq!(rt; Order::read(&[0, 0, 0, 0, 0]).err(), Some(0));
-        assert_eq!(rt; Order::read(&[4, 0, 0, 0, 0]).err(), Some(0));
-        assert_eq!(rt; Order::read(&[3, 0, 0, 0]).err(), Some(0));
-    }
-
-    /// The check by a plain sum of words, folded once at the end.
-    fn plain_check(bytes: &[u8]) -> u64 {
-        let weights = [256u64, 1];
-        let sum = bytes
-            .iter()
-            .zip(weights.into_iter().cycle())
-            .fold(0u64, |sum, (byte, weight)| {
-                sum.saturating_add(weight.saturating_mul(u64::from(*byte)))
-            });
-        65_535 - (sum.saturating_sub(1) % 65_535 + 1)
-    }
-
-    /// Every front of a string of bytes that is not all zero, of odd and even lengths.
-    #[test]
-    fn checks_as_a_plain_sum(rt: HostRuntime) {
-        let mut bytes = [0; 97];
-        let mut next: u32 = 1;
-        for byte in bytes.iter_mut() {
-            next = next.wrapping_mul(1_103_515_245).wrapping_add(12_345);
-            *byte = (next >> 16 & 0xff) as u8;
-        }
-        for n in 1..97usize {
-            assert_eq!(rt;
-                u64::from(check_of(&bytes[0..n])),
-                plain_check(&bytes[0..n])
-            );
-        }
-        assert_eq!(rt; check_of(&[0xff, 0xff, 0xff, 0xff]), 0);
-        assert_eq!(rt; check_of(&[]), 0xffff);
-    }
-
-    /// What is heard of a frame of the hut with note 7, after one byte was set and the check mended.
-    fn heard_with_byte(at: usize, byte: u8) -> Result<(), (u8, Option<usize>)> {
-        let format = HUT_SENDS;
-        let frame = Frame::Laden {
-            ack: 1,
-            number: 0,
-            element: Order::Note { number: 7 },
-        };
-        let mut area = [0; LONGEST];
-        let _ = write(format, &frame, &mut area);
-        if at < 17 {
-            area[at] = byte;
-        }
-        let check = check_of(&area[..17]).to_be_bytes();
-        area[17..19].copy_from_slice(&check);
-        number_and_place(hear::<Order>(format, &area[..19])).map(|_| ())
-    }
-
-    #[test]
-    fn frames_with_one_byte_set(rt: HostRuntime) {
-        let table = [
-            (0, 0x4E, Err((11, Some(0)))),
-            (4, 2, Err((11, Some(0)))),
-            (5, 0, Err((13, Some(5)))),
-            (5, 1, Err((13, Some(11)))),
-            (5, 3, Err((13, Some(5)))),
-            (6, 1, Err((13, Some(6)))),
-            (8, 7, Ok(())),
-            (8, 8, Err((14, Some(7)))),
-            (10, 4, Ok(())),
-            (10, 5, Err((14, Some(9)))),
-            (11, 4, Err((13, Some(11)))),
-            (12, 0, Err((15, Some(12)))),
-            (12, 1, Err((15, Some(13)))),
-            (12, 2, Ok(())),
-            (13, 0xff, Ok(())),
-        ];
-        for (at, byte, expected) in table {
-            assert_eq!(rt; heard_with_byte(at, byte), expected);
-        }
-    }
-
-    /// What is heard of so many bytes that begin as a bare frame of the hut does, end with a right check, and are 0 between.
-    fn heard_of_length(n: usize) -> Result<(), (u8, Option<usize>)> {
-        let mut bytes = [0; 40];
-        let n = n.clamp(14, 40);
-        bytes[0..7].copy_from_slice(&[0x4D, 0x48, 0x4C, 0, 1, 1, 2]);
-        let check = check_of(&bytes[..n - 2]).to_be_bytes();
-        bytes[n - 2..n].copy_from_slice(&check);
-        number_and_place(hear::<Order>(HUT_SENDS, &bytes[..n])).map(|_| ())
-    }
-
-    #[test]
-    fn frames_at_the_ends_of_their_lengths(rt: HostRuntime) -> Result<(), Fail> {
-        assert_eq!(rt; heard_of_length(14), Ok(()));
-        assert_eq!(rt; heard_of_length(15), Err((13, Some(11))));
-        assert_eq!(rt; heard_of_length(32), Err((13, Some(11))));
-        assert_eq!(rt; heard_of_length(33), Err((10, Some(0))));
-        let mut area = [0; LONGEST];
-        let n = write(HUT_SENDS, &Frame::<Order>::Bare { ack: 7 }, &mut area)?;
-        assert_eq!(rt; n, 14);
-        let short = hear::<Order>(HUT_SENDS, &area[0..13]);
-        assert_eq!(rt; short.err().ok_or("heard")?.number(), 10);
-        area[13] ^= 1;
-        let wrong = hear::<Order>(HUT_SENDS, &area[0..14]).err().ok_or("heard")?;
-        assert_eq!(rt; (wrong.number(), wrong.place()), (12, Some(12)));
-        Ok(())
-    }
-}
+mod windows;

@@ -109,8 +109,8 @@ fn late_frame<A: Air, B: Air>(
     passes(link, last, last.saturating_add(1))
 }
 
-/// The first acknowledgement waits, while one window of readings after another goes over, and its acknowledgement passes the first, as often
-/// as the bound allows. The mast holds one more window when the first comes, and releases none of it.
+/// The first acknowledgement waits, while one window of readings after another goes over, and its acknowledgement overtakes the first, as
+/// often as the bound allows. The mast holds one more window when the first comes, and releases none of it.
 fn late_acknowledgement<A: Air, B: Air>(
     link: &mut Link<Reading, Order, A, B>,
     window: u32,

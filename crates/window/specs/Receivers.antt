@@ -8,5 +8,5 @@ module _ {E : Type 0} where
   slot_of numbers number r = slot_for numbers r.base (length r.slots) number
 
   -- the receiver after the element with this number was placed: it fills the slot that the number stands for, if there is one
-  abbrev pub placed : Numbering → (number : ℕ) → E → Receiver E → Receiver E
-  placed numbers number e r = record r { slots = filled (slot_of numbers number r) e r.slots }
+  abbrev pub placing : Numbering → (number : ℕ) → E → Receiver E → Receiver E
+  placing numbers number e r = record r { slots = filled (slot_of numbers number r) e r.slots }

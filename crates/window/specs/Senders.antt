@@ -9,7 +9,7 @@ use Rattle.protocol.specs.Drafts.{refused_unless}
 use Rattle.protocol.specs.Windows.{Numbering, Sender, holding}
 
 module _ {E : Type 0} where
-  -- the k-th held element and its number; none if fewer are held
+  -- the k-th held element, counted from 0, and its number; none if no more than k are held
   abbrev pub held_at : Numbering → (k : ℕ) → Sender E → Option (ℕ × E)
   held_at numbers k s = option_map (λ e. (numbers.after s.low k, e)) (slice_get s.held k)
 

@@ -2,8 +2,8 @@
 use Rattle.std.proofs.Common.{◌≡◌, ℕ, ◌≤◌, true, is_none, length, Some, None, Option, refl, ap, arith}
 use Rattle.std.proofs.lemmas.Bool.{lt-ltb}
 use Rattle.element.specs.Kinds.{Coding, fault_of, out_of_range}
-use Rattle.frame.specs.Formats.{frame_bytes, mapped, past_cycle}
-use Rattle.frame.specs.Writes.{bytes_of, unfit}
+use Rattle.frame.specs.Formats.{frame_bytes, mapped, not_below_cycle}
+use Rattle.frame.specs.Writes.{bytes_of, element_refusal}
 use Rattle.frame.specs.declared.Cycles.{Cycles}
 use Rattle.frame.specs.declared.Format.{Format}
 use Rattle.frame.specs.declared.Frame.{Frame}
@@ -20,7 +20,7 @@ none_is (Some x) h = absurd (let z : ◌≡◌ {A = ℕ} 0 1 = cc in omega arith
 module _ {K : Type 0} (kind : Coding K) where
   -- a frame that can be said has no number past its cycle, and no field out of range
   sayable_free : (side : Side) (cycles : Cycles) (f : Frame K) → Sayable (is_element kind) cycles f →
-      (past_cycle (record { sender = side; cycles = cycles }) f ≡ None) × (unfit kind f ≡ None)
+      (not_below_cycle (record { sender = side; cycles = cycles }) f ≡ None) × (element_refusal kind f ≡ None)
   sayable_free side cycles (Bare ack) s = (rw (lt-ltb ack cycles.ack s), refl)
   sayable_free side cycles (Laden ack x e) s = (rw (lt-ltb ack cycles.ack s.0, lt-ltb x cycles.number s.1), ap out_of_range (none_is (fault_of kind e) s.2))
 

@@ -1,5 +1,8 @@
 //! A link's frames on the wire: bytes, for every kind of element. What is proved of every link whose frames are read
 //! back as they were written therefore holds of links whose frames are bytes.
+//!
+//! It joins `protocol`, which knows nothing of a frame's bytes, and `frame`, which knows nothing of links. It must know nothing of the
+//! code of an end or a link, nor which kinds of element there are.
 #![tactic(auto)]
 
 ghost use Rattle.wire.specs.Wires.{CountsInBytes, PromisesInBytes, Readable};

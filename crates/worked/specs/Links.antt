@@ -10,7 +10,7 @@ use Rattle.protocol.specs.Machine.Act.{accept, send, bare, deliver, repeat, pass
 use Rattle.protocol.specs.Machine.Reply.{heard}
 use Rattle.protocol.specs.Histories.{Call, Answer, answers, after}
 use Rattle.protocol.specs.Histories.Call.{mast, hut}
-use Rattle.protocol.specs.Histories.Answer.{to_mast, to_hut}
+use Rattle.protocol.specs.Histories.Answer.{mast_answer, hut_answer}
 use Rattle.protocol.specs.declared.Placement.TheVariants.{Slot, Outside, Bare}
 use Rattle.protocol.specs.declared.terms.Terms.{Terms}
 
@@ -81,9 +81,9 @@ pub record WorkedLinks (E F : Type 0) : Type 0 where
   pub case_f_none : released (cyclic 17) 15 3 15 ≡ 0
   -- G: on a cycle that is one too short, the frame that is delivered late fills slot 1, a false place; on the least cycle it is outside
   pub case_g_least : least_cycle 2 0 0 ≡ 4
-  pub case_g_short : (a b : E) → late_frame {F = F} 3 a b ≡ to_mast (heard 0 (Slot 1))
-  pub case_g_long : (a b : E) → late_frame {F = F} 4 a b ≡ to_mast (heard 0 Outside)
+  pub case_g_short : (a b : E) → late_frame {F = F} 3 a b ≡ mast_answer (heard 0 (Slot 1))
+  pub case_g_long : (a b : E) → late_frame {F = F} 4 a b ≡ mast_answer (heard 0 Outside)
   -- H: on a cycle that is one too short, the late acknowledgement releases b, which was never sent; on the least cycle it releases none
   pub case_h_least : least_cycle 1 0 1 ≡ 3
-  pub case_h_short : (a b : E) → late_acknowledgement {F = F} 2 a b ≡ to_hut (heard 1 Bare)
-  pub case_h_long : (a b : E) → late_acknowledgement {F = F} 3 a b ≡ to_hut (heard 0 Bare)
+  pub case_h_short : (a b : E) → late_acknowledgement {F = F} 2 a b ≡ hut_answer (heard 1 Bare)
+  pub case_h_long : (a b : E) → late_acknowledgement {F = F} 3 a b ≡ hut_answer (heard 0 Bare)

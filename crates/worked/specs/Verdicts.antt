@@ -14,10 +14,12 @@ abbrev pub blanks : ℕ → List ℕ
 blanks zero = []
 blanks (suc n) = 0xAA ∷ blanks n
 
+-- the verdict on a case, by whether it held
 abbrev pub verdict_of : Bool → Verdict
 verdict_of true = Holds
 verdict_of false = Off
 
+-- what is printed of it
 abbrev pub verdict_text : Verdict → Option (List ℕ)
 verdict_text Holds = Some (codes "holds")
 verdict_text Off = Some (codes "off")

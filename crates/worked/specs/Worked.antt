@@ -1,4 +1,4 @@
--- The worked examples, each as an equation between the definitions and what they are worked out to.
+-- The worked cases I to L, each as an equation between the definitions and what they are worked out to.
 use Rattle.std.specs.Prelude.{◌≡◌, ℕ, List, [], ◌∷◌, pos, Some, Ok, Err}
 use Rattle.octets.specs.Areas.{front}
 use Rattle.octets.specs.Checks.{check, folded, word_sum}
@@ -26,10 +26,11 @@ from side = record { sender = side; cycles = record { ack = 8; number = 8 } }
 abbrev pub humid : ℕ → Reading
 humid n = record { time = 0; height = pos 0; temperature = pos 0; humidity = n; pressure = 0 }
 
--- the bytes of case I, and those of case J
+-- the bytes of case I
 abbrev pub bare_bytes : List ℕ
 bare_bytes = 0x4D ∷ 0x48 ∷ 0x4C ∷ 0x00 ∷ 0x01 ∷ 0x01 ∷ 0x02 ∷ 0x00 ∷ 0x01 ∷ 0x00 ∷ 0x00 ∷ 0x00 ∷ 0x62 ∷ 0xB6 ∷ []
 
+-- the bytes of case J
 abbrev pub note_bytes : List ℕ
 note_bytes = 0x4D ∷ 0x48 ∷ 0x4C ∷ 0x00 ∷ 0x01 ∷ 0x02 ∷ 0x02 ∷ 0x00 ∷ 0x01 ∷ 0x00 ∷ 0x00 ∷ 0x05 ∷ 0x03 ∷ 0x00 ∷ 0x00 ∷ 0x00 ∷ 0x07 ∷ 0x58 ∷ 0xB0 ∷ []
 
@@ -45,6 +46,7 @@ holding ws = record { waiting = ws; capacity = 3; bound = 1 }
 abbrev pub rfc_bytes : List ℕ
 rfc_bytes = 0x00 ∷ 0x01 ∷ 0xf2 ∷ 0x03 ∷ 0xf4 ∷ 0xf5 ∷ 0xf6 ∷ 0xf7 ∷ []
 
+-- the worked cases I to L, and the example of RFC 1071
 pub record Worked : Type 0 where
   -- I: the hut's bare frame with acknowledgement 1
   pub case_i_written : bytes_of order_coding (from Hut) (Bare 1) ≡ bare_bytes

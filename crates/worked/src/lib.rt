@@ -1,4 +1,6 @@
-//! Worked examples: shown of the definitions that the contracts of the other crates rest on, and verdicts on those that are flown.
+//! Worked cases: shown of the definitions that the contracts of the other crates rest on, and verdicts on those that are flown.
+//!
+//! It must know nothing of the code that does what the definitions say: it calls none of it. The program `cases` does.
 #![tactic(auto)]
 
 ghost use Rattle.std.specs.Prelude.{◌≡◌, codes};

@@ -56,14 +56,14 @@ impl<O: Kind, I: Kind> End<O, I> {
         air.put(&area[..n])
     }
 
-    /// Puts a frame with the k-th held element into the air that carries what it sends. Refused by 5 where fewer are held, and then by 6
-    /// where the air is full.
+    /// Puts a frame with the k-th held element into the air that carries what it sends. Refused by 5 where no more than k are held, and
+    /// then by 6 where the air is full.
     pub fn send<A: Air>(&mut self, k: usize, air: &mut Tight<A>) -> Result<(), Refusal>
         ensures step { Acts O.coding I.coding self.old self.new
             (tight_state A.Gauge.state air.old) (tight_state A.Gauge.state air.new) (send k) (done_reply result) }
         ensures air { Keeps A.Gauge.state air.old air.new }
     {
-        let frame = self.frame(k).ok_or(Refusal::NotHeld)?;
+        let frame = self.laden_frame(k).ok_or(Refusal::NotHeld)?;
         self.put(&frame, air)
     }
 
@@ -73,7 +73,7 @@ impl<O: Kind, I: Kind> End<O, I> {
             (tight_state A.Gauge.state air.old) (tight_state A.Gauge.state air.new) bare (done_reply result) }
         ensures air { Keeps A.Gauge.state air.old air.new }
     {
-        self.put(&self.acknowledgement(), air)
+        self.put(&self.bare_frame(), air)
     }
 
     /// Takes frame k out of the air that carries what it hears, and hears it. Refused by 7 and 8 as by that air, and then by 10 to 15.

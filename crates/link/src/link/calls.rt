@@ -2,7 +2,7 @@
 ghost use Rattle.link.specs.Links.{HutActs, MastActs};
 ghost use Rattle.link.specs.Replies.{done_reply, heard_reply};
 ghost use Rattle.protocol.specs.Machine.Act.{accept, bare, deliver, lose, pass, repeat, send};
-ghost use Rattle.protocol.specs.Machine.Reply.{handed};
+ghost use Rattle.protocol.specs.Machine.Reply.{passed_on};
 
 use crate::{Hearing, Link};
 use air::Air;
@@ -18,7 +18,7 @@ impl<X: Kind, Y: Kind, A: Air, B: Air> Link<X, Y, A, B> {
         self.mast.accept(element)
     }
 
-    /// The mast sends its k-th held element. Refused by 5 where fewer are held, and then by 6 where the air to the hut is full.
+    /// The mast sends its k-th held element. Refused by 5 where it holds no more than k, and then by 6 where the air to the hut is full.
     pub fn send_from_mast(&mut self, k: usize) -> Result<(), Refusal>
         ensures { MastActs X.coding Y.coding A.Gauge.state B.Gauge.state self.old self.new (send k) (done_reply result) }
     {
@@ -57,7 +57,7 @@ impl<X: Kind, Y: Kind, A: Air, B: Air> Link<X, Y, A, B> {
 
     /// The mast passes on the next element of those that the hut has accepted, if it has come.
     pub fn pass_at_mast(&mut self) -> Option<Y>
-        ensures { MastActs X.coding Y.coding A.Gauge.state B.Gauge.state self.old self.new pass (handed result) }
+        ensures { MastActs X.coding Y.coding A.Gauge.state B.Gauge.state self.old self.new pass (passed_on result) }
     {
         self.mast.pass()
     }
@@ -70,7 +70,7 @@ impl<X: Kind, Y: Kind, A: Air, B: Air> Link<X, Y, A, B> {
         self.hut.accept(element)
     }
 
-    /// The hut sends its k-th held element. Refused by 5 where fewer are held, and then by 6 where the air to the mast is full.
+    /// The hut sends its k-th held element. Refused by 5 where it holds no more than k, and then by 6 where the air to the mast is full.
     pub fn send_from_hut(&mut self, k: usize) -> Result<(), Refusal>
         ensures { HutActs X.coding Y.coding A.Gauge.state B.Gauge.state self.old self.new (send k) (done_reply result) }
     {
@@ -109,7 +109,7 @@ impl<X: Kind, Y: Kind, A: Air, B: Air> Link<X, Y, A, B> {
 
     /// The hut passes on the next element of those that the mast has accepted, if it has come.
     pub fn pass_at_hut(&mut self) -> Option<X>
-        ensures { HutActs X.coding Y.coding A.Gauge.state B.Gauge.state self.old self.new pass (handed result) }
+        ensures { HutActs X.coding Y.coding A.Gauge.state B.Gauge.state self.old self.new pass (passed_on result) }
     {
         self.hut.pass()
     }

@@ -56,14 +56,14 @@ impl<X: Kind, Y: Kind, A: Air, B: Air> Link<X, Y, A, B> {
     {
         match ends(alloc, &draft) {
             Ok((mast, hut)) => {
-                let to_hut = draft.hut_bound().bound as u8;
-                let to_mast = draft.mast_bound().bound as u8;
+                let bound_to_hut = draft.hut_bound().bound as u8;
+                let bound_to_mast = draft.mast_bound().bound as u8;
                 Ok(Link {
                     draft,
                     mast,
                     hut,
-                    hut_bound_air: Tight::new(hut_bound_air, to_hut),
-                    mast_bound_air: Tight::new(mast_bound_air, to_mast),
+                    hut_bound_air: Tight::new(hut_bound_air, bound_to_hut),
+                    mast_bound_air: Tight::new(mast_bound_air, bound_to_mast),
                 })
             }
             Err(_) => Err(NotOpened {
@@ -131,8 +131,8 @@ impl<X: Kind, Y: Kind, A: Air, B: Air> Link<X, Y, A, B> {
                 mast: mast.record(),
                 hut: hut.record(),
             },
-            hut_bound_air: hut_bound_air.release(),
-            mast_bound_air: mast_bound_air.release(),
+            hut_bound_air: hut_bound_air.into_inner(),
+            mast_bound_air: mast_bound_air.into_inner(),
         }
     }
 }

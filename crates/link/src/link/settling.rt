@@ -25,7 +25,7 @@ fn empty<O: Kind, I: Kind, A: Air>(to: &mut End<O, I>, air: &mut Tight<A>)
 }
 
 /// Passes until there is none, into a list from place `at` on, and answers the place behind the last.
-#[tactic(auto, using(crate::proofs::Passes::free_le))]
+#[tactic(auto, using(protocol::proofs::Slots::free_le))]
 fn pass_all<O: Kind, I: Kind>(from: &mut End<O, I>, list: &mut [I], at: usize) -> usize
     requires { at + length (end_state from.old).receiver.slots ≤ length list.old }
     ensures run { UndergoesAlone I.coding O.coding all_passed from.old from.new (drop at (take result list.new)) }

@@ -3,7 +3,7 @@ ghost use Rattle.std.specs.Prelude.{◌≡◌, IfOk, length};
 ghost use Rattle.protocol.specs.Laws.{behind, placed_in};
 ghost use Rattle.protocol.specs.Machine.{new_stream};
 ghost use Rattle.protocol.specs.Windows.{first_slot, moved_on, next_free, place_at};
-ghost use Rattle.window.specs.Receivers.{placed, slot_of};
+ghost use Rattle.window.specs.Receivers.{placing, slot_of};
 ghost use Rattle.window.specs.Seen.{numbers_of, receiver_state, terms_of};
 
 use crate::Receiver;
@@ -75,7 +75,7 @@ impl<E: Copy> Receiver<E> {
     #[tactic(auto, using(crate::proofs::Marks::marks_filled))]
     pub fn place(&mut self, number: u16, element: E) -> Placement
         ensures value { result ≡ place_at (slot_of (numbers_of self.old.cycle) number (receiver_state self.old)) }
-        ensures state { receiver_state self.new ≡ placed (numbers_of self.old.cycle) number element (receiver_state self.old) }
+        ensures state { receiver_state self.new ≡ placing (numbers_of self.old.cycle) number element (receiver_state self.old) }
         ensures settings { (self.new.cycle ≡ self.old.cycle) × (length (receiver_state self.new).slots ≡ length (receiver_state self.old).slots) }
     {
         let placement = self.cycle.place(self.base, self.slots.len(), number);

@@ -59,7 +59,7 @@ impl<E: Kind> Sender<E> {
         numbers.after(self.low, held)
     }
 
-    /// The k-th held element and its number; none if fewer are held.
+    /// The k-th held element, counted from 0, and its number; none if no more than k are held.
     pub fn get(&self, k: usize) -> Option<(u16, E)>
         ensures { result ≡ held_at (numbers_of self.now.cycle) k (sender_state self.now) }
     {

@@ -1,7 +1,8 @@
 use Rattle.std.proofs.Common.{◌+◌, ◌-◌, ◌<◌, length, arith, rules}
 use Rattle.link.specs.Ends.{end_state}
 use Rattle.link.proofs.Lists.{before_more, behind_more, filled_more}
-use Rattle.link.proofs.Passes.{free_le, nearer, passed_all, passed_more}
+use Rattle.protocol.proofs.Slots.{free_le}
+use Rattle.link.proofs.Passes.{nearer, passed_all, passed_more}
 use Rattle.link.proofs.link.settling.pass_all.Goals as goal
 
 pub loop-element-smaller : goal.loop-element-smaller

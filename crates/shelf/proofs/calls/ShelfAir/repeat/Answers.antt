@@ -12,7 +12,7 @@ pub raise_counts-requires-clause-small : goal.raise_counts-requires-clause-small
 raise_counts-requires-clause-small c = λ i before.
     let s = c.args.self.now in
     let free = answer_free c.args.k (shelf_state s) (grind arith) in
-    let less = below_bound s.bound c.args.k i (frames_of s.slots) s.each free.1 (omega arith) (omega arith) in
+    let less = below_bound s.bound c.args.k i (frames_of s.cells) s.each free.1 (omega arith) (omega arith) in
     grind (arith, get_or-map, get_or-take, length-map, length-take, less)
 
 pub invariant_of-self-clause-each : goal.invariant_of-self-clause-each
@@ -25,5 +25,5 @@ pub returns : goal.returns
 returns c =
     let s = c.args.self.now in
     let free = answer_free c.args.k (shelf_state s) (grind arith) in
-    let here = slice_get-get_or (frames_of s.slots) c.args.k nothing free.0 in
+    let here = slice_get-get_or (frames_of s.cells) c.args.k nothing free.0 in
     grind (arith, get_or-map, get_or-take, length-map, length-take, here)

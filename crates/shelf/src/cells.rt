@@ -1,13 +1,13 @@
-//! Lent memory, in slots for a frame each.
+//! Lent memory, in cells for a frame each.
 ghost use Rattle.std.specs.Prelude.{◌≡◌, ℕ, ◌+◌, ◌<◌, ◌≤◌, [], ◌∷◌, ◌++◌, length, min, slice_index_or};
 ghost use Rattle.octets.specs.Areas.{front};
 ghost use Rattle.air.specs.Waiting.{fresh, overtaken, without};
-ghost use Rattle.shelf.specs.Slots.{frame_in};
+ghost use Rattle.shelf.specs.Cells.{frame_in};
 
-use crate::{MOST, SLOT};
+use crate::{CELL, MOST};
 use octets::LONGEST;
 
-/// Where the length of a frame stands in its slot.
+/// Where the length of a frame stands in its cell.
 const SIZE: usize = 0;
 
 /// Where its count stands.
@@ -16,37 +16,37 @@ const COUNT: usize = 1;
 /// Where its bytes begin.
 const FRAME: usize = 4;
 
-/// The first `used` slots hold the waiting frames, oldest first.
+/// The first `used` cells hold the waiting frames, oldest first.
 #[derive(Drop)]
-pub(crate) struct Slots<'a> {
-    pub memory: &'a mut [[u8; SLOT]],
+pub(crate) struct Cells<'a> {
+    pub memory: &'a mut [[u8; CELL]],
     pub used: usize,
-    /// no more slots are used than there are, and no more than 1,000
+    /// no more cells are used than there are, and no more than 1,000
     ghost within: { used ≤ min (length memory.now) 1000 },
 }
 
-/// Writes a frame that has just been put into a slot.
-fn write(slot: &mut [u8; SLOT], bytes: &[u8])
+/// Writes a frame that has just been put into a cell.
+fn write(cell: &mut [u8; CELL], bytes: &[u8])
     requires { length bytes.now ≤ 32 }
-    ensures { frame_in slot.new ≡ fresh bytes.now }
+    ensures { frame_in cell.new ≡ fresh bytes.now }
 {
     let n = bytes.len();
-    slot[SIZE] = n as u8;
-    slot[COUNT] = 0;
-    slot[FRAME..FRAME + n].copy_from_slice(bytes);
+    cell[SIZE] = n as u8;
+    cell[COUNT] = 0;
+    cell[FRAME..FRAME + n].copy_from_slice(bytes);
 }
 
-impl<'a> Slots<'a> {
+impl<'a> Cells<'a> {
     ghost use Rattle.shelf.specs.Shelves.{frames_of};
 
-    /// How many slots there are.
+    /// How many cells there are.
     pub(crate) fn capacity(&self) -> usize
         ensures { result ≡ min (length self.now.memory.now) 1000 }
     {
         self.memory.len().min(MOST)
     }
 
-    /// Writes a frame that has just been put into the first slot that is not used.
+    /// Writes a frame that has just been put into the first cell that is not used.
     pub(crate) fn push(&mut self, bytes: &[u8])
         requires room { self.old.used < min (length self.old.memory.now) 1000 }
         requires few { length bytes.now ≤ 32 }
@@ -59,7 +59,7 @@ impl<'a> Slots<'a> {
         self.used += 1;
     }
 
-    /// Removes the frame in slot k: those behind it close up.
+    /// Removes the frame in cell k: those behind it close up.
     pub(crate) fn remove(&mut self, k: usize)
         requires { k < self.old.used }
         ensures len { length self.new.memory.now ≡ length self.old.memory.now }
@@ -70,7 +70,7 @@ impl<'a> Slots<'a> {
         self.used -= 1;
     }
 
-    /// The count of the frame in slot k.
+    /// The count of the frame in cell k.
     pub(crate) fn count(&self, k: usize) -> u8
         requires { k < self.now.used }
         ensures { result ≡ (frame_in (slice_index_or self.now.memory.now k [])).count }
@@ -78,7 +78,7 @@ impl<'a> Slots<'a> {
         self.memory[k][COUNT]
     }
 
-    /// Each frame before slot k is overtaken once more.
+    /// Each frame before cell k is overtaken once more.
     pub(crate) fn raise_counts(&mut self, k: usize)
         requires at { k < self.old.used }
         requires small { (i : ℕ) → i < k → (frame_in (slice_index_or self.old.memory.now i [])).count < 255 }
@@ -86,21 +86,21 @@ impl<'a> Slots<'a> {
         ensures used { self.new.used ≡ self.old.used }
         ensures frames { frames_of self.new ≡ overtaken k (frames_of self.old) }
     {
-        for slot in self.memory[..k].iter_mut() {
-            slot[COUNT] += 1;
+        for cell in self.memory[..k].iter_mut() {
+            cell[COUNT] += 1;
         }
     }
 
-    /// Copies the frame in slot k into the front of the area, and answers its length.
+    /// Copies the frame in cell k into the front of the area, and answers its length.
     pub(crate) fn copy_to(&self, k: usize, area: &mut [u8; LONGEST]) -> usize
         requires { k < self.now.used }
         ensures size { result ≡ length (frame_in (slice_index_or self.now.memory.now k [])).frame }
         ensures area { area.new ≡ front (frame_in (slice_index_or self.now.memory.now k [])).frame area.old }
     {
         let memory = &*self.memory;
-        let slot = &memory[k];
-        let n = usize::from(slot[SIZE]).min(LONGEST);
-        area[..n].copy_from_slice(&slot[FRAME..FRAME + n]);
+        let cell = &memory[k];
+        let n = usize::from(cell[SIZE]).min(LONGEST);
+        area[..n].copy_from_slice(&cell[FRAME..FRAME + n]);
         n
     }
 }

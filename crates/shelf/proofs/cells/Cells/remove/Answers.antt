@@ -1,8 +1,8 @@
 use Rattle.std.proofs.Common.{map, ap, ◌∙◌, arith}
 use Rattle.air.proofs.Places.{map-without}
-use Rattle.shelf.specs.Slots.{frame_in}
-use Rattle.shelf.proofs.SlotLaws.{closed_up}
-use Rattle.shelf.proofs.slots.Slots.remove.Goals as goal
+use Rattle.shelf.specs.Cells.{frame_in}
+use Rattle.shelf.proofs.CellLaws.{closed_up}
+use Rattle.shelf.proofs.cells.Cells.remove.Goals as goal
 
 pub returns-clause-frames : goal.returns-clause-frames
 returns-clause-frames c =

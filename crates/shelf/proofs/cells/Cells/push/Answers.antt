@@ -1,8 +1,8 @@
 use Rattle.std.proofs.Common.{◌++◌, [], ◌∷◌, map, ap, ◌∙◌, arith}
 use Rattle.std.proofs.lemmas.List.{map_push, take_more_set}
-use Rattle.shelf.specs.Slots.{frame_in}
+use Rattle.shelf.specs.Cells.{frame_in}
 use Rattle.shelf.specs.Shelves.{frames_of}
-use Rattle.shelf.proofs.slots.Slots.push.Goals as goal
+use Rattle.shelf.proofs.cells.Cells.push.Goals as goal
 
 pub returns-clause-frames : goal.returns-clause-frames
 returns-clause-frames c =
