@@ -1,93 +1,88 @@
 //! The readings around the burst, and an acknowledgement that comes late among them.
 use crate::Flight;
-use crate::calls::{
-    tell_accepting, tell_at_hut, tell_at_mast, tell_ordering, tell_passing, tell_waiting,
-};
+use crate::calls::{tell_accepting, tell_delivering, tell_passing, tell_repeating, tell_waiting};
 use crate::draft::WINDOW;
-use crate::readings::{BURSTING, NEARING_BURST};
-use anyhow::Context;
-use element::order::Order;
-use protocol::Cycle;
+use crate::journey::Journey;
+use crate::late::{TOO_SHORT, released_on_too_short};
 
-/// Where the antenna is to point as the balloon comes down.
-const POINTING: Order = Order::Point {
-    bearing: 11_825,
-    elevation: 4_130,
-};
-
-/// Readings from below the height of the burst arrive, and the hut acknowledges them; that passes the acknowledgement which is held back.
-/// Answers how many readings the mast released.
-pub(crate) fn tell_nearing(rt: &impl Print, link: &mut Flight) -> anyhow::Result<usize> {
-    println!(rt; "High up, the mast accepts:")?;
-    tell_accepting(rt, link, &NEARING_BURST)?;
-    println!(rt; "It sends each of them, and the relay hands it over:")?;
-    for k in 0..NEARING_BURST.len() {
-        link.send_from_mast(k)?;
-        tell_at_hut(rt, link.deliver_hut_bound(0))?;
-    }
-    tell_passing(rt, link)?;
-    link.bare_from_hut()?;
-    println!(rt; "The hut acknowledges. This frame passes the one that is held back:")?;
-    let released = tell_at_mast(rt, link.deliver_mast_bound(1)?)?;
-    tell_waiting(rt, link.mast_bound_air())?;
-    Ok(released)
+/// In a second each, the mast accepts as many readings as it may hold; it sends each of them, and the relay hands it over.
+fn tell_bringing(rt: &impl Print, link: &mut Flight, journey: &mut Journey) -> anyhow::Result<()> {
+    tell_accepting(rt, link, journey, WINDOW as usize)?;
+    tell_sending(rt, link, journey)
 }
 
-/// How many readings the mast would release by an acknowledgement of the first few, on a cycle of this length, if it has released so many
-/// and holds those around the burst.
-fn released_on(length: u16, acknowledged: usize, released: usize) -> anyhow::Result<usize> {
-    let cycle = Cycle::new(length).context("a cycle without numbers")?;
-    let ack = cycle.after(0, u16::try_from(acknowledged)?);
-    let low = cycle.after(0, u16::try_from(released)?);
-    Ok(cycle.released(low, BURSTING.len(), ack))
+/// The mast sends each reading that it holds, and the relay hands it over; the hut passes all of them on.
+fn tell_sending(rt: &impl Print, link: &mut Flight, journey: &mut Journey) -> anyhow::Result<()> {
+    println!(rt; "It sends each of them, and the relay hands it over:")?;
+    for place in 0..journey.readings.held() {
+        journey.readings.send(link, &journey.orders, place)?;
+        tell_delivering(rt, link, &mut journey.readings, &mut journey.orders, 0)?;
+    }
+    tell_passing(rt, link, journey)
+}
+
+/// The hut acknowledges; the relay hands over a copy of that frame and holds back the frame itself.
+fn tell_holding_back(
+    rt: &impl Print,
+    link: &mut Flight,
+    journey: &mut Journey,
+) -> anyhow::Result<()> {
+    println!(rt; "Near burst height, the mast accepts:")?;
+    tell_bringing(rt, link, journey)?;
+    journey.orders.bare(link, &journey.readings)?;
+    println!(rt; "The hut acknowledges. The relay hands over a copy, and holds back the frame:")?;
+    tell_repeating(rt, link, &mut journey.orders, &mut journey.readings, 0)?;
+    tell_waiting(rt, link.mast_bound_air())?;
+    Ok(())
+}
+
+/// The hut acknowledges more readings, and that overtakes the acknowledgement which is held back.
+fn tell_passing_by(
+    rt: &impl Print,
+    link: &mut Flight,
+    journey: &mut Journey,
+) -> anyhow::Result<()> {
+    println!(rt; "The mast accepts:")?;
+    tell_bringing(rt, link, journey)?;
+    journey.orders.bare(link, &journey.readings)?;
+    println!(rt; "The hut acknowledges. This frame overtakes the one that is held back:")?;
+    tell_delivering(rt, link, &mut journey.orders, &mut journey.readings, 1)?;
+    tell_waiting(rt, link.mast_bound_air())?;
+    Ok(())
 }
 
 /// The balloon bursts, and the acknowledgement that was held back comes before any of these readings is sent. It says that so many readings
-/// were received; by now, more are released.
+/// have come; by now, more are released.
 fn tell_late(
     rt: &impl Print,
     link: &mut Flight,
+    journey: &mut Journey,
     acknowledged: usize,
-    released: usize,
 ) -> anyhow::Result<()> {
     println!(rt; "The balloon bursts. The mast accepts:")?;
-    tell_accepting(rt, link, &BURSTING)?;
+    tell_accepting(rt, link, journey, WINDOW as usize)?;
+    let (released, held) = (journey.readings.released, journey.readings.held());
     println!(rt;
         "Only now comes the acknowledgement that was held back. It is of {acknowledged} readings; {released} are released:"
     )?;
-    tell_at_mast(rt, link.deliver_mast_bound(0)?)?;
-    let twice = u16::try_from(WINDOW)?.saturating_mul(2);
+    tell_delivering(rt, link, &mut journey.orders, &mut journey.readings, 0)?;
     println!(rt;
-        "    On a cycle of {twice}, twice the window, it would release {} of the {} that the hut has still to get.",
-        released_on(twice, acknowledged, released)?,
+        "    On a cycle of {TOO_SHORT}, twice the window, it would release {} of the {} that the hut has still to get.",
+        released_on_too_short(acknowledged, released, held)?,
         link.owed().hut
     )?;
-    Ok(())
+    println!(rt; "The mast holds them still.")?;
+    tell_sending(rt, link, journey)
 }
 
-/// The mast sends the readings around the burst, and the hut an order; the relays lose a frame each.
-fn tell_losses(rt: &impl Print, link: &mut Flight) -> anyhow::Result<()> {
-    for k in 0..BURSTING.len() {
-        link.send_from_mast(k)?;
-    }
-    link.lose_hut_bound(0)?;
-    println!(rt; "The mast sends all of them. The relay loses the first frame.")?;
-    tell_waiting(rt, link.hut_bound_air())?;
-    println!(rt; "The hut sends an order:")?;
-    tell_ordering(rt, link, POINTING)?;
-    link.lose_mast_bound(0)?;
-    println!(rt; "The relay loses that, too.")?;
-    tell_waiting(rt, link.mast_bound_air())?;
-    Ok(())
-}
-
-/// The burst. The acknowledgement that is held back says that so many readings were received.
+/// The seconds around the burst.
 pub(crate) fn tell_burst(
     rt: &impl Print,
     link: &mut Flight,
-    acknowledged: usize,
-    released: usize,
+    journey: &mut Journey,
 ) -> anyhow::Result<()> {
-    tell_late(rt, link, acknowledged, released)?;
-    tell_losses(rt, link)
+    tell_holding_back(rt, link, journey)?;
+    let acknowledged = journey.readings.passed.len();
+    tell_passing_by(rt, link, journey)?;
+    tell_late(rt, link, journey, acknowledged)
 }

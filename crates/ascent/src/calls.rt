@@ -1,8 +1,10 @@
 //! Calls of the link, each with what is told of it.
 use crate::Flight;
+use crate::carried::Carried;
+use crate::journey::Journey;
+use crate::stream::Stream;
 use air::{Air, most_overtaken};
 use element::order::Order;
-use element::reading::Reading;
 use link::Hearing;
 use protocol::Placement;
 use refusal::Refusal;
@@ -23,15 +25,17 @@ impl fmt::Display for Fate {
     }
 }
 
-/// The mast accepts readings.
+/// A second for each reading: the balloon's instruments read, and the mast accepts.
 pub(crate) fn tell_accepting(
     rt: &impl Print,
     link: &mut Flight,
-    readings: &[Reading],
+    journey: &mut Journey,
+    seconds: usize,
 ) -> anyhow::Result<()> {
-    for reading in readings {
-        link.accept_at_mast(*reading)?;
-        println!(rt; "    {}", Told(*reading))?;
+    for _ in 0..seconds {
+        journey.read()?;
+        let reading = journey.readings.accept(link)??;
+        println!(rt; "    {}", Told(reading))?;
     }
     Ok(())
 }
@@ -40,39 +44,62 @@ pub(crate) fn tell_accepting(
 pub(crate) fn tell_ordering(
     rt: &impl Print,
     link: &mut Flight,
+    journey: &mut Journey,
     order: Order,
 ) -> anyhow::Result<()> {
-    link.accept_at_hut(order)?;
-    link.send_from_hut(0)?;
+    journey.orders.made.push(order)?;
+    let order = journey.orders.accept(link)??;
     println!(rt; "    {}", Told(order))?;
-    Ok(())
+    journey.orders.send(link, &journey.readings, 0)
 }
 
-/// What the hut made of a frame, if the air handed it over.
-pub(crate) fn tell_at_hut(rt: &impl Print, answer: Result<Hearing, Refusal>) -> io::Result<()> {
+/// What the receiver of a stream made of a frame, if the air handed it over.
+fn tell_hearing<E: Carried>(rt: &impl Print, answer: Result<Hearing, Refusal>) -> io::Result<()> {
     match answer {
         Ok(hearing) => {
-            let fate = Fate(hearing.placement);
-            let released = hearing.released;
-            println!(rt; "    The hut {fate}, and releases {released} of its orders.")
+            let (receiver, held) = (E::RECEIVER, E::RECEIVER_HOLDS);
+            let (fate, released) = (Fate(hearing.placement), hearing.released);
+            println!(rt; "    The {receiver} {fate}, and releases {released} of its {held}.")
         }
         Err(refusal) => println!(rt; "    It is held back: {refusal}."),
     }
 }
 
-/// What the mast made of a frame; answers how many readings it released.
-pub(crate) fn tell_at_mast(rt: &impl Print, hearing: Hearing) -> io::Result<usize> {
-    let fate = Fate(hearing.placement);
-    let released = hearing.released;
-    println!(rt; "    The mast {fate}, and releases {released} of its readings.")?;
-    Ok(released)
+/// The relay hands over the frame at a place.
+pub(crate) fn tell_delivering<E: Carried, B: Carried>(
+    rt: &impl Print,
+    link: &mut Flight,
+    forth: &mut Stream<E>,
+    back: &mut Stream<B>,
+    place: usize,
+) -> anyhow::Result<()> {
+    let answer = forth.deliver(link, back, place)?;
+    tell_hearing::<E>(rt, answer)?;
+    Ok(())
+}
+
+/// The relay hands over a copy of the frame at a place.
+pub(crate) fn tell_repeating<E: Carried, B: Carried>(
+    rt: &impl Print,
+    link: &mut Flight,
+    forth: &mut Stream<E>,
+    back: &mut Stream<B>,
+    place: usize,
+) -> anyhow::Result<()> {
+    let answer = forth.repeat(link, back, place)?;
+    tell_hearing::<E>(rt, answer)?;
+    Ok(())
 }
 
 /// The hut passes on what it has in sequence, at most a window of readings.
-pub(crate) fn tell_passing(rt: &impl Print, link: &mut Flight) -> io::Result<()> {
+pub(crate) fn tell_passing(
+    rt: &impl Print,
+    link: &mut Flight,
+    journey: &mut Journey,
+) -> anyhow::Result<()> {
     println!(rt; "The hut passes on what it has in sequence:")?;
     for _ in 0..link.draft().hut_bound().window {
-        let Some(reading) = link.pass_at_hut() else {
+        let Some(reading) = journey.readings.pass(link)? else {
             break;
         };
         println!(rt; "    {}", Told(reading))?;

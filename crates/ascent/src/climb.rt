@@ -1,85 +1,101 @@
-//! The climb: readings on relays that lose a frame, repeat one and let a young one pass an old one; and an order that comes back.
+//! The first readings, call by call: a relay that loses a frame, repeats one and lets young ones overtake an old one, up to the bound;
+//! and an order that comes back.
 use crate::Flight;
 use crate::calls::{
-    tell_accepting, tell_at_hut, tell_at_mast, tell_ordering, tell_passing, tell_waiting,
+    tell_accepting, tell_delivering, tell_ordering, tell_passing, tell_repeating, tell_waiting,
 };
-use crate::readings::CLIMBING;
-use element::order::Order;
-use std::io;
-use telling::{READING, Told};
-
-/// Where the mast's receiver is to be tuned.
-const TUNING: Order = Order::Tune { khz: 403_500 };
+use crate::draft::WINDOW;
+use crate::journey::Journey;
+use crate::orders::TUNING;
+use telling::Told;
 
 /// The mast accepts as many readings as it may hold, tries one more, and sends what it holds.
-fn tell_sending(rt: &impl Print, link: &mut Flight) -> anyhow::Result<()> {
-    println!(rt; "The balloon climbs. The mast accepts:")?;
-    tell_accepting(rt, link, &CLIMBING)?;
-    match link.accept_at_mast(READING) {
-        Ok(()) => println!(rt; "It accepts one more.")?,
-        Err(refusal) => println!(rt; "One more it does not accept: {refusal}.")?,
+fn tell_sending(rt: &impl Print, link: &mut Flight, journey: &mut Journey) -> anyhow::Result<()> {
+    println!(rt; "The balloon is released. Each second the mast accepts a reading:")?;
+    tell_accepting(rt, link, journey, WINDOW as usize)?;
+    journey.read()?;
+    match journey.readings.accept(link)? {
+        Ok(_) => println!(rt; "It accepts one more.")?,
+        Err(refusal) => println!(rt;
+            "One more it does not accept: {refusal}. That one is queued."
+        )?,
     }
-    for k in 0..CLIMBING.len() {
-        link.send_from_mast(k)?;
+    for place in 0..journey.readings.held() {
+        journey.readings.send(link, &journey.orders, place)?;
     }
-    println!(rt; "It sends all of them.")?;
+    println!(rt; "It sends all that it holds.")?;
     tell_waiting(rt, link.hut_bound_air())?;
     Ok(())
 }
 
-/// The relay loses the second frame, lets the third pass the first, and repeats the first.
-fn tell_relay(rt: &impl Print, link: &mut Flight) -> anyhow::Result<()> {
-    link.lose_hut_bound(1)?;
-    println!(rt; "The relay loses the second frame.")?;
-    println!(rt; "It lets the third pass the first:")?;
-    tell_at_hut(rt, link.deliver_hut_bound(1))?;
+/// The relay loses the second frame, and lets others overtake the first as often as the bound allows.
+fn tell_overtaking(
+    rt: &impl Print,
+    link: &mut Flight,
+    journey: &mut Journey,
+) -> anyhow::Result<()> {
+    let (readings, orders) = (&mut journey.readings, &mut journey.orders);
+    readings.lose(link, 1)?;
+    println!(rt;
+        "The relay loses the second frame, and lets the third and the fourth overtake the first:"
+    )?;
+    tell_delivering(rt, link, readings, orders, 1)?;
+    tell_delivering(rt, link, readings, orders, 1)?;
     tell_waiting(rt, link.hut_bound_air())?;
-    println!(rt; "It tries the same with the fourth:")?;
-    tell_at_hut(rt, link.deliver_hut_bound(1))?;
-    println!(rt; "It repeats the first, and then hands over the first and the fourth:")?;
-    tell_at_hut(rt, link.repeat_hut_bound(0))?;
-    tell_at_hut(rt, link.deliver_hut_bound(0))?;
-    tell_at_hut(rt, link.deliver_hut_bound(0))?;
-    tell_passing(rt, link)?;
+    readings.send(link, orders, 1)?;
+    println!(rt;
+        "The mast sends the second reading once more. That overtakes the first frame, too:"
+    )?;
+    tell_delivering(rt, link, readings, orders, 1)?;
+    tell_waiting(rt, link.hut_bound_air())?;
+    readings.send(link, orders, 3)?;
+    println!(rt;
+        "It sends the fourth once more. The first frame has been overtaken often enough:"
+    )?;
+    tell_delivering(rt, link, readings, orders, 1)
+}
+
+/// The relay repeats the first frame, and then hands over both that wait; the second of them brings nothing new.
+fn tell_coming(rt: &impl Print, link: &mut Flight, journey: &mut Journey) -> anyhow::Result<()> {
+    println!(rt; "The relay repeats the first frame, and then hands it over:")?;
+    tell_repeating(rt, link, &mut journey.readings, &mut journey.orders, 0)?;
+    tell_delivering(rt, link, &mut journey.readings, &mut journey.orders, 0)?;
+    tell_passing(rt, link, journey)?;
+    println!(rt; "Now comes the frame that was held back:")?;
+    tell_delivering(rt, link, &mut journey.readings, &mut journey.orders, 0)
+}
+
+/// The hut sends an order, whose frame acknowledges the readings; the mast passes it on.
+fn tell_order(rt: &impl Print, link: &mut Flight, journey: &mut Journey) -> anyhow::Result<()> {
+    println!(rt; "The hut sends an order, and acknowledges the readings with it:")?;
+    tell_ordering(rt, link, journey, TUNING)?;
+    tell_delivering(rt, link, &mut journey.orders, &mut journey.readings, 0)?;
+    match journey.orders.pass(link)? {
+        Some(order) => println!(rt; "The mast passes on: {}.", Told(order))?,
+        None => println!(rt; "The mast has nothing to pass on.")?,
+    }
     Ok(())
 }
 
-/// The mast passes on the order that has come.
-fn tell_order(rt: &impl Print, link: &mut Flight) -> io::Result<()> {
-    match link.pass_at_mast() {
-        Some(order) => println!(rt; "The mast passes on: {}.", Told(order)),
-        None => println!(rt; "The mast has nothing to pass on."),
-    }
+/// The reading that was queued is accepted and sent, and its frame acknowledges the order.
+fn tell_queued(rt: &impl Print, link: &mut Flight, journey: &mut Journey) -> anyhow::Result<()> {
+    let reading = journey.readings.accept(link)??;
+    println!(rt; "Now the mast accepts the queued reading, and sends it:")?;
+    println!(rt; "    {}", Told(reading))?;
+    journey.readings.send(link, &journey.orders, 0)?;
+    tell_delivering(rt, link, &mut journey.readings, &mut journey.orders, 0)?;
+    tell_passing(rt, link, journey)
 }
 
-/// The hut sends an order, whose frame says which reading is missing; the mast sends that once more. Answers how many readings it
-/// released.
-fn tell_mending(rt: &impl Print, link: &mut Flight) -> anyhow::Result<usize> {
-    println!(rt; "The hut sends an order, and acknowledges the first reading with it:")?;
-    tell_ordering(rt, link, TUNING)?;
-    let released = tell_at_mast(rt, link.deliver_mast_bound(0)?)?;
-    tell_order(rt, link)?;
-    println!(rt; "It sends the first reading that it still holds once more:")?;
-    link.send_from_mast(0)?;
-    tell_at_hut(rt, link.deliver_hut_bound(0))?;
-    tell_passing(rt, link)?;
-    Ok(released)
-}
-
-/// The hut acknowledges; the relay hands over a copy of that frame and holds it back itself. Answers how many readings the mast released.
-fn tell_holding_back(rt: &impl Print, link: &mut Flight) -> anyhow::Result<usize> {
-    link.bare_from_hut()?;
-    println!(rt; "The hut acknowledges. The relay hands over a copy, and holds back the frame:")?;
-    let released = tell_at_mast(rt, link.repeat_mast_bound(0)?)?;
-    tell_waiting(rt, link.mast_bound_air())?;
-    Ok(released)
-}
-
-/// The climb, up to an acknowledgement that is held back. Answers how many readings the mast has released by then.
-pub(crate) fn tell_climb(rt: &impl Print, link: &mut Flight) -> anyhow::Result<usize> {
-    tell_sending(rt, link)?;
-    tell_relay(rt, link)?;
-    let first = tell_mending(rt, link)?;
-    let others = tell_holding_back(rt, link)?;
-    Ok(first.saturating_add(others))
+/// The first seconds of the flight.
+pub(crate) fn tell_climb(
+    rt: &impl Print,
+    link: &mut Flight,
+    journey: &mut Journey,
+) -> anyhow::Result<()> {
+    tell_sending(rt, link, journey)?;
+    tell_overtaking(rt, link, journey)?;
+    tell_coming(rt, link, journey)?;
+    tell_order(rt, link, journey)?;
+    tell_queued(rt, link, journey)
 }

@@ -1,114 +1,56 @@
-//! A flight, told in plain text: its draft; one of its readings as a frame in bytes; and then its link, from the opening through the climb
-//! and the burst to the record that it leaves. What is told is computed by the library's calls.
+//! A long flight, told in plain text: its draft; one of its readings as a frame in bytes; its link, from the opening through thousands of
+//! readings to the record that it leaves; and whether all of them arrived. What is told is computed by the library's calls.
+//!
+//! It must know nothing of how the library comes to its answers, nor how readings, orders and refusals are put into words.
 #![tactic(auto)]
 
-use element::Kind;
 use element::order::Order;
 use element::reading::Reading;
-use frame::{Frame, LONGEST, hear, write};
 use link::Link;
 use pool::Pool;
 use std::io;
-use telling::{Decimal, HUT_BOUND, Heard, MAST_BOUND, READING, Told};
 
+mod balloon;
 mod burst;
 mod calls;
+mod carried;
 mod climb;
 mod damage;
 mod draft;
+mod draws;
 mod flight;
-mod readings;
+mod frames;
+mod journey;
+mod landing;
+mod late;
+mod orders;
+mod profile;
+mod progress;
+mod relay;
+mod sample;
+mod stream;
+mod turns;
+mod verdict;
+mod weather;
 
 /// The link of the flight: readings go to the hut, orders to the mast, each through the pool of a relay.
 type Flight = Link<Reading, Order, Pool, Pool>;
 
-/// The acknowledgement that the mast's frames carry.
-const ACK: u16 = 3;
-
-/// The number under which the reading is sent.
-const NUMBER: u16 = 5;
-
-/// The frame with which the mast sends a reading, under a number of its cycle.
-fn carrying(number: u16, element: Reading) -> Frame<Reading> {
-    Frame::Laden {
-        ack: ACK,
-        number,
-        element,
-    }
+/// The word that a sentence needs where something is not as it ought to be.
+fn not_unless(holds: bool) -> &'static str {
+    if holds { "" } else { "NOT " }
 }
 
-/// The word that a sentence needs where something is not what was sent.
-fn not_unless(same: bool) -> &'static str {
-    if same { "" } else { "NOT " }
-}
-
-/// Prints bytes in rows of sixteen.
-fn show_bytes(rt: &impl Print, bytes: &[u8]) -> io::Result<()> {
-    for row in bytes.chunks(16) {
-        print!(rt; "   ")?;
-        for byte in row {
-            print!(rt; " {byte:02X}")?;
-        }
-        println!(rt)?;
-    }
-    Ok(())
-}
-
-/// Makes a reading, and tries to make the same with a little more humidity than there can be.
-fn tell_making(rt: &impl Print) -> anyhow::Result<Reading> {
-    let reading = READING.make()?;
-    println!(rt; "The mast makes a reading: {}.", Told(reading))?;
-    let humidity = Reading::MAX_HUMIDITY + 1;
-    let percent = Decimal::Tenths(i64::from(humidity));
-    match (Reading {
-        humidity,
-        ..reading
-    })
-    .make()
-    {
-        Ok(_) => println!(rt; "With {percent} % it is made too.")?,
-        Err(refusal) => println!(rt; "With {percent} % it is not made: {refusal}.")?,
-    }
-    Ok(reading)
-}
-
-/// What becomes of a frame that arrives as it was sent, that comes back to its sender, and that is cut short.
-fn tell_arrivals(rt: &impl Print, frame: Frame<Reading>, bytes: &[u8]) -> io::Result<()> {
-    println!(rt; "{}", Heard::by("The hut", HUT_BOUND, bytes))?;
-    let same = hear::<Reading>(HUT_BOUND, bytes) == Ok(frame);
-    println!(rt; "That is {}what was sent.", not_unless(same))?;
-    let own = Heard::by(
-        "The mast, to which its own frame comes back,",
-        MAST_BOUND,
-        bytes,
-    );
-    println!(rt; "{own}")?;
-    let cut = Heard::by(
-        "The hut, to which the last byte is lost,",
-        HUT_BOUND,
-        &bytes[..bytes.len().saturating_sub(1)],
-    );
-    println!(rt; "{cut}")
-}
-
-fn tell(rt: &(impl Print + AllocGlobal)) -> anyhow::Result<()> {
-    let draft = draft::tell_draft(rt)?;
-    println!(rt)?;
-    let reading = tell_making(rt)?;
-    let frame = carrying(NUMBER, reading);
-    let mut area = [0; LONGEST];
-    let n = write(HUT_BOUND, &frame, &mut area)?;
-    let bytes = &area[..n];
-    println!(rt;
-        "It goes out as reading number {NUMBER} with acknowledgement {ACK}, in {n} bytes:"
-    )?;
-    show_bytes(rt, bytes)?;
-    tell_arrivals(rt, frame, bytes)?;
-    damage::tell_damage(rt, bytes)?;
-    println!(rt)?;
-    flight::tell_flight(rt, draft)
+/// The heading of a section.
+fn tell_heading(rt: &impl Print, heading: &str) -> io::Result<()> {
+    println!(rt; "\n== {heading} ==\n")
 }
 
 fn main(rt: HostRuntime) -> anyhow::Result<()> {
-    tell(&rt)
+    println!(rt; "One balloon flight over the link, from the draft to the verdict")?;
+    tell_heading(&rt, "The draft")?;
+    let draft = draft::tell_draft(&rt)?;
+    tell_heading(&rt, "One reading as a frame")?;
+    sample::tell_sample(&rt)?;
+    flight::tell_flight(&rt, draft)
 }
