@@ -9,13 +9,51 @@ struct Answer {
     length: usize,
 }
 
+/// A frame in plain fields: the library's frame of readings, whose element is a reading, and that of orders, with the fields of one.
 #[repr(C)]
 #[derive(Default)]
-struct ReadingFrame {
+struct PlainFrame<T> {
     laden: bool,
     ack: u16,
     number: u16,
-    reading: Reading,
+    element: T,
+}
+
+impl<T: Default> PlainFrame<T> {
+    /// A frame in plain fields; those of a bare one's element are 0.
+    #[inline]
+    fn of<E: Into<T>>(frame: Frame<E>) -> PlainFrame<T> {
+        match frame {
+            Frame::Bare { ack } => PlainFrame {
+                ack,
+                ..Default::default()
+            },
+            Frame::Laden {
+                ack,
+                number,
+                element,
+            } => PlainFrame {
+                laden: true,
+                ack,
+                number,
+                element: element.into(),
+            },
+        }
+    }
+
+    /// The frame that the fields tell.
+    #[inline]
+    fn frame<E: From<T>>(self) -> Frame<E> {
+        let ack = self.ack;
+        match self.laden {
+            true => Frame::Laden {
+                ack,
+                number: self.number,
+                element: self.element.into(),
+            },
+            false => Frame::Bare { ack },
+        }
+    }
 }
 
 /// The fields of an order, by its tag. Those that it does not name are 0 where it was read.
@@ -28,27 +66,18 @@ pub struct OrderFields {
     pub elevation: u16,
 }
 
-#[repr(C)]
-#[derive(Default)]
-struct OrderFrame {
-    laden: bool,
-    ack: u16,
-    number: u16,
-    order: OrderFields,
-}
-
 unsafe extern "C" {
     fn cerduma_read_reading(
         ack_cycle: u16,
         number_cycle: u16,
         bytes: *const u8,
         length: usize,
-        frame: *mut ReadingFrame,
+        frame: *mut PlainFrame<Reading>,
     ) -> Answer;
     fn cerduma_write_reading(
         ack_cycle: u16,
         number_cycle: u16,
-        frame: *const ReadingFrame,
+        frame: *const PlainFrame<Reading>,
         area: *mut u8,
         length: usize,
     ) -> Answer;
@@ -57,12 +86,12 @@ unsafe extern "C" {
         number_cycle: u16,
         bytes: *const u8,
         length: usize,
-        frame: *mut OrderFrame,
+        frame: *mut PlainFrame<OrderFields>,
     ) -> Answer;
     fn cerduma_write_order(
         ack_cycle: u16,
         number_cycle: u16,
-        frame: *const OrderFrame,
+        frame: *const PlainFrame<OrderFields>,
         area: *mut u8,
         length: usize,
     ) -> Answer;
@@ -94,7 +123,7 @@ pub trait Proved: Element {
 impl Proved for Reading {
     #[inline]
     fn read(cycles: Cycles, bytes: &[u8]) -> Result<Frame<Reading>, Refused> {
-        let mut frame = ReadingFrame::default();
+        let mut frame = PlainFrame::default();
         // SAFETY: the declaration fits the function, the pointer and the length are those of one slice, and `frame` is its own.
         let answer = unsafe {
             cerduma_read_reading(
@@ -106,39 +135,11 @@ impl Proved for Reading {
             )
         };
         answer.length()?;
-        let ReadingFrame {
-            laden,
-            ack,
-            number,
-            reading,
-        } = frame;
-        Ok(match laden {
-            true => Frame::Laden {
-                ack,
-                number,
-                element: reading,
-            },
-            false => Frame::Bare { ack },
-        })
+        Ok(frame.frame())
     }
 
     fn write(cycles: Cycles, frame: &Frame<Reading>, area: &mut [u8]) -> Result<usize, Refused> {
-        let frame = match *frame {
-            Frame::Bare { ack } => ReadingFrame {
-                ack,
-                ..Default::default()
-            },
-            Frame::Laden {
-                ack,
-                number,
-                element,
-            } => ReadingFrame {
-                laden: true,
-                ack,
-                number,
-                reading: element,
-            },
-        };
+        let frame = PlainFrame::of(*frame);
         // SAFETY: the declaration fits the function, and the pointer and the length are those of one slice, which is lent for writing.
         unsafe {
             cerduma_write_reading(
@@ -176,26 +177,35 @@ impl From<Order> for OrderFields {
     }
 }
 
-/// Writes a laden frame with an order by its fields, of which the tag may be none.
-pub fn write_fields(
+/// The order that fields tell which the library has read: its tag is 1, 2 or 3.
+impl From<OrderFields> for Order {
+    #[inline]
+    fn from(fields: OrderFields) -> Order {
+        match fields.tag {
+            1 => Order::Tune { khz: fields.value },
+            2 => Order::Point {
+                bearing: fields.bearing,
+                elevation: fields.elevation,
+            },
+            _ => Order::Note {
+                number: fields.value,
+            },
+        }
+    }
+}
+
+/// Writes a frame with an order in plain fields.
+fn write_plain(
     cycles: Cycles,
-    ack: u16,
-    number: u16,
-    order: OrderFields,
+    frame: &PlainFrame<OrderFields>,
     area: &mut [u8],
 ) -> Result<usize, Refused> {
-    let frame = OrderFrame {
-        laden: true,
-        ack,
-        number,
-        order,
-    };
     // SAFETY: as above.
     unsafe {
         cerduma_write_order(
             cycles.ack,
             cycles.number,
-            &frame,
+            frame,
             area.as_mut_ptr(),
             area.len(),
         )
@@ -203,10 +213,28 @@ pub fn write_fields(
     .length()
 }
 
+/// Writes a laden frame with an order by its fields, of which the tag may be none.
+#[cfg(test)]
+pub fn write_fields(
+    cycles: Cycles,
+    ack: u16,
+    number: u16,
+    order: OrderFields,
+    area: &mut [u8],
+) -> Result<usize, Refused> {
+    let frame = PlainFrame {
+        laden: true,
+        ack,
+        number,
+        element: order,
+    };
+    write_plain(cycles, &frame, area)
+}
+
 impl Proved for Order {
     #[inline]
     fn read(cycles: Cycles, bytes: &[u8]) -> Result<Frame<Order>, Refused> {
-        let mut frame = OrderFrame::default();
+        let mut frame = PlainFrame::default();
         // SAFETY: as above.
         let answer = unsafe {
             cerduma_read_order(
@@ -218,54 +246,10 @@ impl Proved for Order {
             )
         };
         answer.length()?;
-        let OrderFrame {
-            laden,
-            ack,
-            number,
-            order,
-        } = frame;
-        let element = match order.tag {
-            _ if !laden => return Ok(Frame::Bare { ack }),
-            1 => Order::Tune { khz: order.value },
-            2 => Order::Point {
-                bearing: order.bearing,
-                elevation: order.elevation,
-            },
-            _ => Order::Note {
-                number: order.value,
-            },
-        };
-        Ok(Frame::Laden {
-            ack,
-            number,
-            element,
-        })
+        Ok(frame.frame())
     }
 
     fn write(cycles: Cycles, frame: &Frame<Order>, area: &mut [u8]) -> Result<usize, Refused> {
-        match *frame {
-            Frame::Laden {
-                ack,
-                number,
-                element,
-            } => write_fields(cycles, ack, number, element.into(), area),
-            Frame::Bare { ack } => {
-                let frame = OrderFrame {
-                    ack,
-                    ..Default::default()
-                };
-                // SAFETY: as above.
-                unsafe {
-                    cerduma_write_order(
-                        cycles.ack,
-                        cycles.number,
-                        &frame,
-                        area.as_mut_ptr(),
-                        area.len(),
-                    )
-                }
-                .length()
-            }
-        }
+        write_plain(cycles, &PlainFrame::of(*frame), area)
     }
 }
