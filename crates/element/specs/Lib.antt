@@ -1,5 +1,11 @@
 pub mod Kinds
 pub mod Orders
-pub mod Readings
 pub mod OrderLaws
+pub mod OzoneLaws
+pub mod Ozones
+pub mod Ranges
 pub mod ReadingLaws
+pub mod Readings
+pub mod Widths
+pub mod WindLaws
+pub mod Winds

@@ -3,6 +3,7 @@ use Rattle.std.specs.Prelude.{ℕ, ◌^◌, cond, ◌||◌, List, [], ◌∷◌,
 use Rattle.octets.specs.Numbers.{bytes16, bytes32, number16, number32}
 use Rattle.element.specs.Kinds.{Coding, Field, field}
 use Rattle.element.specs.declared.order.Order.{Order}
+use Rattle.element.specs.declared.order.OrderHeadline.{OrderHeadline}
 use Rattle.element.specs.declared.order.Tag.{Tag}
 use Rattle.element.specs.declared.order.UnknownTag.{UnknownTag}
 use Rattle.element.specs.declared.order.Order.TheVariants.{Tune, Point, Note}
@@ -14,6 +15,12 @@ tag_of byte =
     (cond (byte == 2) (Ok Tag.Point)
     (cond (byte == 3) (Ok Tag.Note)
     (Err (record {}))))
+
+-- which order it is
+abbrev pub order_tag : Order → Tag
+order_tag (Tune khz) = Tag.Tune
+order_tag (Point bearing elevation) = Tag.Point
+order_tag (Note number) = Tag.Note
 
 -- the fields behind the tag, each with its range
 abbrev pub order_fields : Order → List Field
@@ -42,6 +49,10 @@ order_value bs = cond (length bs == 5) (order_tagged (slice_index bs 0) (slice_i
 -- orders as a kind
 abbrev pub order_coding : Coding Order
 order_coding = record { width = 5; fields = order_fields; written = order_written; value = order_value }
+
+-- what a console shows of an order: its tag
+abbrev pub order_headline : Order → OrderHeadline
+order_headline o = record { tag = order_tag o }
 
 -- some order
 abbrev pub an_order : Order

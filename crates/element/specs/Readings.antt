@@ -1,18 +1,13 @@
 -- Which readings there are, and their fourteen bytes.
-use Rattle.std.specs.Prelude.{ℕ, pred, ◌^◌, Bool, cond, ◌||◌, List, [], ◌∷◌, ◌++◌, length, ℤ, pos, negsuc, Some, None, Option, ◌==◌, int_lt, nat_le, nat_lt, slice_index}
+use Rattle.std.specs.Prelude.{ℕ, ◌^◌, List, [], ◌∷◌, ◌++◌, pos, Option, nat_le, nat_lt, slice_index}
 use Rattle.std.proofs.Common.{to_z, of_z}
 use Rattle.std.specs.Int.{w16, w32}
 use Rattle.octets.specs.Numbers.{bytes16, bytes32, number16, number32}
 use Rattle.element.specs.Kinds.{Coding, Field, field}
+use Rattle.element.specs.Ranges.{minus, out_of}
+use Rattle.element.specs.Widths.{value_in}
 use Rattle.element.specs.declared.reading.Reading.{Reading}
-
--- a number below zero, by its magnitude, which is 1 or more
-abbrev pub minus : ℕ → ℤ
-minus n = negsuc (pred n)
-
--- below a lowest value or above a highest one
-abbrev pub out_of : ℤ → ℤ → ℤ → Bool
-out_of low high z = int_lt z low || int_lt high z
+use Rattle.element.specs.declared.reading.ReadingHeadline.{ReadingHeadline}
 
 -- the fields of a reading, each with its range
 abbrev pub reading_fields : Reading → List Field
@@ -40,11 +35,15 @@ reading_parts bs = record {
 
 -- the reading that bytes hold; none where they are not fourteen
 abbrev pub reading_value : List ℕ → Option Reading
-reading_value bs = cond (length bs == 14) (Some (reading_parts bs)) None
+reading_value = value_in 14 reading_parts
 
 -- readings as a kind
 abbrev pub reading_coding : Coding Reading
 reading_coding = record { width = 14; fields = reading_fields; written = reading_written; value = reading_value }
+
+-- what a console shows of a reading: its height and its temperature
+abbrev pub reading_headline : Reading → ReadingHeadline
+reading_headline r = record { height = r.height; temperature = r.temperature }
 
 -- some reading
 abbrev pub a_reading : Reading

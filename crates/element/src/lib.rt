@@ -12,7 +12,9 @@ ghost use Rattle.element.specs.Kinds.{Coding, InOrder, element_from, element_int
 use refusal::Refusal;
 
 pub mod order;
+pub mod ozone;
 pub mod reading;
+pub mod wind;
 
 /// No kind is wider than this, in bytes.
 pub const WIDEST: usize = 18;
@@ -20,17 +22,23 @@ pub const WIDEST: usize = 18;
 /// A kind of element. A value of the type is an element where none of its fields is out of range; its fields are public, so
 /// that a caller may hand over any value, and `make` and `write` refuse one that is no element.
 ///
-/// Who adds a kind gives the width, the coding, and the calls `fault`, `lay_out` and `value`, and shows the laws; the other
-/// calls follow.
+/// Who adds a kind gives the width, the coding, the headline, and the calls `fault`, `lay_out`, `value` and `headline`, and shows the
+/// laws; the other calls follow.
 pub trait Kind: Copy {
     /// The width of an element in bytes.
     const W: usize;
+
+    /// The part of an element that a console shows.
+    type Headline: Copy;
 
     /// The same, for clauses.
     ghost W: { ℕ };
 
     /// The kind's bytes and fields, for clauses.
     ghost coding: { Coding Self };
+
+    /// The headline of a value, for clauses.
+    ghost headline: { Self → Self.Headline };
 
     /// Some element.
     ghost example: { Self };
@@ -53,6 +61,10 @@ pub trait Kind: Copy {
     /// The value that bytes hold, in range or not; none where they are not as many as the kind is wide, or their tag is unknown.
     fn value(bytes: &[u8]) -> Option<Self>
         ensures { result ≡ coding.value bytes.now };
+
+    /// The value's headline.
+    fn headline(&self) -> Self::Headline
+        ensures { result ≡ headline self.now };
 
     /// The value as an element; refused where a field is out of range.
     fn make(self) -> Result<Self, Refusal>

@@ -1,6 +1,6 @@
 //! Orders: what the hut asks of the mast.
 ghost use Rattle.std.specs.Prelude.{◌≡◌};
-ghost use Rattle.element.specs.Orders.{an_order, order_coding, tag_of};
+ghost use Rattle.element.specs.Orders.{an_order, order_coding, order_headline, order_tag, tag_of};
 ghost use Rattle.element.specs.OrderLaws.{order_only};
 ghost use Rattle.std.proofs.Common.{rules};
 
@@ -17,17 +17,20 @@ pub enum Order {
     Note { number: u32 },
 }
 
-/// What the first byte of an order says that it is.
+/// Which order it is, as the first byte says.
 #[derive(Clone, Copy, PartialEq, Eq, Debug)]
-enum Tag {
+pub enum Tag {
+    /// The receiver is to be tuned.
     Tune = 1,
+    /// The antenna is to point somewhere.
     Point = 2,
+    /// A launch note is meant.
     Note = 3,
 }
 
 /// A byte that is no tag.
 #[derive(Clone, Copy, PartialEq, Eq, Debug)]
-struct UnknownTag;
+pub struct UnknownTag;
 
 impl TryFrom<u8> for Tag {
     type Error = UnknownTag;
@@ -56,15 +59,37 @@ impl Order {
 
     /// The largest elevation, in hundredths of a degree; the smallest is 0.
     pub const MAX_ELEVATION: u16 = 9_000;
+
+    /// Which order it is.
+    fn tag(&self) -> Tag
+        ensures { result ≡ order_tag self.now }
+    {
+        match self {
+            Order::Tune { .. } => Tag::Tune,
+            Order::Point { .. } => Tag::Point,
+            Order::Note { .. } => Tag::Note,
+        }
+    }
+}
+
+/// What a console shows of an order: which one it is.
+#[derive(Clone, Copy, PartialEq, Eq, Debug)]
+pub struct OrderHeadline {
+    /// Which order it is.
+    pub tag: Tag,
 }
 
 /// Five bytes: the tag, and 32 bits of what it says.
 impl Kind for Order {
     const W: usize = 5;
 
+    type Headline = OrderHeadline;
+
     ghost W = { 5 };
 
     ghost coding = { order_coding };
+
+    ghost headline = { order_headline };
 
     ghost example = { an_order };
 
@@ -96,16 +121,16 @@ impl Kind for Order {
     }
 
     fn lay_out(&self, area: &mut [u8; WIDEST]) {
-        let (tag, [a, b, c, d]) = match *self {
-            Order::Tune { khz } => (Tag::Tune, khz.to_be_bytes()),
+        let [a, b, c, d] = match *self {
+            Order::Tune { khz } => khz.to_be_bytes(),
             Order::Point { bearing, elevation } => {
                 let [a, b] = bearing.to_be_bytes();
                 let [c, d] = elevation.to_be_bytes();
-                (Tag::Point, [a, b, c, d])
+                [a, b, c, d]
             }
-            Order::Note { number } => (Tag::Note, number.to_be_bytes()),
+            Order::Note { number } => number.to_be_bytes(),
         };
-        let bytes = [tag as u8, a, b, c, d];
+        let bytes = [self.tag() as u8, a, b, c, d];
         area[..bytes.len()].copy_from_slice(&bytes);
     }
 
@@ -125,5 +150,9 @@ impl Kind for Order {
                 number: u32::from_be_bytes([a, b, c, d]),
             },
         })
+    }
+
+    fn headline(&self) -> OrderHeadline {
+        OrderHeadline { tag: self.tag() }
     }
 }

@@ -1,5 +1,5 @@
 //! Readings: what the balloon's instruments told the mast.
-ghost use Rattle.element.specs.Readings.{a_reading, reading_coding};
+ghost use Rattle.element.specs.Readings.{a_reading, reading_coding, reading_headline};
 ghost use Rattle.element.specs.ReadingLaws.{reading_only};
 ghost use Rattle.std.proofs.Common.{rules};
 
@@ -40,13 +40,26 @@ impl Reading {
     pub const MAX_PRESSURE: u16 = 11_000;
 }
 
+/// What a console shows of a reading: where the balloon is, and how cold it is there.
+#[derive(Clone, Copy, PartialEq, Eq, Debug)]
+pub struct ReadingHeadline {
+    /// Decimetres.
+    pub height: i32,
+    /// Hundredths of a degree Celsius.
+    pub temperature: i16,
+}
+
 /// Fourteen bytes: the fields in their order.
 impl Kind for Reading {
     const W: usize = 14;
 
+    type Headline = ReadingHeadline;
+
     ghost W = { 14 };
 
     ghost coding = { reading_coding };
+
+    ghost headline = { reading_headline };
 
     ghost example = { a_reading };
 
@@ -103,5 +116,12 @@ impl Kind for Reading {
             humidity: u16::from_be_bytes([u0, u1]),
             pressure: u16::from_be_bytes([p0, p1]),
         })
+    }
+
+    fn headline(&self) -> ReadingHeadline {
+        ReadingHeadline {
+            height: self.height,
+            temperature: self.temperature,
+        }
     }
 }
