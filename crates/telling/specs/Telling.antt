@@ -1,10 +1,12 @@
--- What is printed of numbers, of readings, of orders and of what a listener made of bytes.
+-- What is printed of numbers, of elements of each kind and of what a listener made of bytes.
 use Rattle.std.specs.Prelude.{ℕ, ℤ, pos, negsuc, ◌/◌, ◌%◌, List, [], ◌++◌, Some, None, Ok, Err, Option, Result, codes, decimal, unsigned_abs}
 use Rattle.refusal.specs.Refusals.{shown_of}
 use Rattle.refusal.specs.declared.Refusal.{Refusal}
 use Rattle.element.specs.declared.order.Order.{Order}
 use Rattle.element.specs.declared.order.Order.TheVariants.{Tune, Point, Note}
+use Rattle.element.specs.declared.ozone.Ozone.{Ozone}
 use Rattle.element.specs.declared.reading.Reading.{Reading}
+use Rattle.element.specs.declared.wind.Wind.{Wind}
 use Rattle.frame.specs.declared.Frame.{Frame}
 use Rattle.frame.specs.declared.Frame.TheVariants.{Bare, Laden}
 use Rattle.telling.specs.declared.Decimal.{Decimal}
@@ -37,6 +39,22 @@ reading_words r = tenths (pos r.time) ++ (codes " s, " ++ (tenths r.height ++ (c
 -- what is printed of a reading
 abbrev pub reading_text : Told Reading → Option (List ℕ)
 reading_text t = Some (reading_words t.0)
+
+-- ozone: its fields in their order, each with its unit
+abbrev pub ozone_words : Ozone → List ℕ
+ozone_words o = tenths (pos o.time) ++ (codes " s, " ++ (hundredths (pos o.partial_pressure) ++ (codes " mPa, " ++ (hundredths o.cell_temperature ++ codes " C"))))
+
+-- what is printed of ozone
+abbrev pub ozone_text : Told Ozone → Option (List ℕ)
+ozone_text t = Some (ozone_words t.0)
+
+-- a wind: its fields in their order, each with its unit
+abbrev pub wind_words : Wind → List ℕ
+wind_words w = tenths (pos w.time) ++ (codes " s, " ++ (hundredths (pos w.direction) ++ (codes " degrees, " ++ (tenths (pos w.speed) ++ codes " m/s"))))
+
+-- what is printed of a wind
+abbrev pub wind_text : Told Wind → Option (List ℕ)
+wind_text t = Some (wind_words t.0)
 
 -- an order: what is to be done, and its numbers with their unit
 abbrev pub order_words : Order → List ℕ

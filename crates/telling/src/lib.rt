@@ -1,5 +1,5 @@
-//! How a flight is told to people: numbers, readings, orders and what a listener makes of bytes, in plain text, and the cycles of the
-//! flight that is told.
+//! How a flight is told to people: numbers, elements of each kind and their headlines, and what a listener makes of bytes, in plain text,
+//! and the cycles of the flight that is told.
 //!
 //! It must know nothing of airs, drafts and links: it is given values and bytes, and puts them into words.
 #![tactic(auto)]
@@ -7,13 +7,15 @@
 ghost use Rattle.std.specs.Prelude.{◌≡◌};
 ghost use Rattle.element.specs.Readings.{reading_coding};
 ghost use Rattle.frame.specs.Reads.{hear_from};
-ghost use Rattle.telling.specs.Telling.{decimal_text, frame_text, heard_text, order_text, reading_text, sign_text};
+ghost use Rattle.telling.specs.Telling.{decimal_text, frame_text, heard_text, sign_text};
 
-use element::order::Order;
 use element::reading::Reading;
 use frame::{Cycles, Format, Frame, Side, hear};
 use refusal::Refusal;
 use std::fmt;
+
+mod elements;
+mod headlines;
 
 /// Hut-bound frames: the mast numbers them on a cycle of 11, and their acknowledgements are on the other stream's cycle of 17.
 pub const HUT_BOUND: Format = Format {
@@ -74,44 +76,9 @@ impl fmt::Display for Decimal {
     }
 }
 
-/// A value as it is told: a reading or an order with its units, or a frame with what it carries.
+/// A value as it is told: an element of any kind or its headline with its units, or a frame with what it carries.
 #[derive(Clone, Copy, PartialEq, Eq, Debug)]
 pub struct Told<T>(pub T);
-
-impl fmt::Display for Told<Reading> {
-    ghost output = { reading_text };
-
-    fn fmt<W: fmt::Write>(&self, f: &mut fmt::Formatter<W>) -> fmt::Result {
-        let time = Decimal::Tenths(i64::from(self.0.time));
-        let height = Decimal::Tenths(i64::from(self.0.height));
-        let temperature = Decimal::Hundredths(i64::from(self.0.temperature));
-        let humidity = Decimal::Tenths(i64::from(self.0.humidity));
-        let pressure = Decimal::Tenths(i64::from(self.0.pressure));
-        write!(
-            f,
-            "{time} s, {height} m, {temperature} C, {humidity} %, {pressure} hPa"
-        )
-    }
-}
-
-impl fmt::Display for Told<Order> {
-    ghost output = { order_text };
-
-    fn fmt<W: fmt::Write>(&self, f: &mut fmt::Formatter<W>) -> fmt::Result {
-        match self.0 {
-            Order::Tune { khz } => write!(f, "tune to {khz} kHz"),
-            Order::Point { bearing, elevation } => {
-                let bearing = Decimal::Hundredths(i64::from(bearing));
-                let elevation = Decimal::Hundredths(i64::from(elevation));
-                write!(
-                    f,
-                    "point to bearing {bearing} and elevation {elevation} degrees"
-                )
-            }
-            Order::Note { number } => write!(f, "note {number}"),
-        }
-    }
-}
 
 impl fmt::Display for Told<Frame<Reading>> {
     ghost output = { frame_text };
