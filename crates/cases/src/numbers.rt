@@ -1,6 +1,6 @@
 //! The worked cases of numbers that start over: on a cycle of 17 by itself, and at ends that count their readings on it.
 use crate::drafts::terms;
-use crate::links::FIRST;
+use crate::kinds::Worked;
 use element::Kind;
 use element::order::Order;
 use element::reading::Reading;
@@ -47,7 +47,7 @@ fn placed(
     let frame = Frame::Laden {
         ack: 0,
         number,
-        element: FIRST,
+        element: Reading::FIRST,
     };
     Ok(hears(hut, format, frame)?.placement)
 }
@@ -94,11 +94,11 @@ fn releases_on_cycle() -> bool {
 /// A new mast has 15 readings acknowledged, and accepts three more.
 fn hold_three(mast: &mut End<Reading, Order>, format: Format) -> Result<(), Refusal> {
     for next in 1..=15 {
-        mast.accept(FIRST)?;
+        mast.accept(Reading::FIRST)?;
         hears(mast, format, Frame::Bare { ack: next })?;
     }
     for _ in 0..3 {
-        mast.accept(FIRST)?;
+        mast.accept(Reading::FIRST)?;
     }
     Ok(())
 }
@@ -119,7 +119,7 @@ fn frames_at_mast(alloc: Global) -> Result<bool, AllocError> {
     let last = Frame::Laden {
         ack: 0,
         number: 0,
-        element: FIRST,
+        element: Reading::FIRST,
     };
     Ok(
         held == Ok(())

@@ -75,6 +75,7 @@ fn counts<A: Air>(air: &mut A) -> Result<(), Fail> {
     empties(air)
 }
 
+/// All of this, on an empty air with bound 2 and room for three frames or more.
 fn behaves<A: Air>(air: &mut A) -> Result<(), Fail> {
     fills_up(air)?;
     counts(air)

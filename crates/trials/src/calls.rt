@@ -1,7 +1,7 @@
 //! Calls of a link and what they answer, as plain values that tests list, draw and compare.
+use crate::kinds::ByNumber;
 use air::Air;
 use element::order::Order;
-use element::reading::Reading;
 use frame::Side;
 use link::{Hearing, Link};
 use protocol::Placement;
@@ -40,45 +40,6 @@ pub(crate) fn heard(released: usize, placement: Placement) -> Answer {
     })
 }
 
-/// The reading with a number.
-pub(crate) fn reading(number: u32) -> Reading {
-    Reading {
-        time: number,
-        height: 12_000,
-        temperature: -4_000,
-        humidity: 500,
-        pressure: 2_000,
-    }
-}
-
-/// The order with a number.
-pub(crate) fn order(number: u32) -> Order {
-    Order::Note { number }
-}
-
-/// A value that is no reading.
-pub(crate) const WRONG_READING: Reading = Reading {
-    time: 0,
-    height: 500_001,
-    temperature: 0,
-    humidity: 0,
-    pressure: 0,
-};
-
-/// A value that is no order.
-const WRONG_ORDER: Order = Order::Point {
-    bearing: 36_000,
-    elevation: 0,
-};
-
-/// The number of an order; one that stands for none where the order has none.
-pub(crate) fn number_of(order: Order) -> u32 {
-    match order {
-        Order::Note { number } => number,
-        Order::Tune { .. } | Order::Point { .. } => u32::MAX,
-    }
-}
-
 /// The answer of a call that only does something.
 fn done(answer: Result<(), Refusal>) -> Answer {
     match answer {
@@ -96,36 +57,36 @@ fn hearing(answer: Result<Hearing, Refusal>) -> Answer {
 }
 
 /// A call at the mast.
-fn at_mast<A: Air, B: Air>(link: &mut Link<Reading, Order, A, B>, call: Call) -> Answer {
+fn at_mast<X: ByNumber, A: Air, B: Air>(link: &mut Link<X, Order, A, B>, call: Call) -> Answer {
     match call {
-        Call::Accept(number) => done(link.accept_at_mast(reading(number))),
-        Call::AcceptWrong => done(link.accept_at_mast(WRONG_READING)),
+        Call::Accept(number) => done(link.accept_at_mast(X::of(number))),
+        Call::AcceptWrong => done(link.accept_at_mast(X::WRONG)),
         Call::Send(k) => done(link.send_from_mast(k)),
         Call::Bare => done(link.bare_from_mast()),
         Call::Lose(k) => done(link.lose_hut_bound(k)),
         Call::Deliver(k) => hearing(link.deliver_hut_bound(k)),
         Call::Repeat(k) => hearing(link.repeat_hut_bound(k)),
-        Call::Pass => Answer::Passed(link.pass_at_mast().map(number_of)),
+        Call::Pass => Answer::Passed(link.pass_at_mast().map(|order| order.number())),
     }
 }
 
 /// A call at the hut.
-fn at_hut<A: Air, B: Air>(link: &mut Link<Reading, Order, A, B>, call: Call) -> Answer {
+fn at_hut<X: ByNumber, A: Air, B: Air>(link: &mut Link<X, Order, A, B>, call: Call) -> Answer {
     match call {
-        Call::Accept(number) => done(link.accept_at_hut(order(number))),
-        Call::AcceptWrong => done(link.accept_at_hut(WRONG_ORDER)),
+        Call::Accept(number) => done(link.accept_at_hut(Order::of(number))),
+        Call::AcceptWrong => done(link.accept_at_hut(Order::WRONG)),
         Call::Send(k) => done(link.send_from_hut(k)),
         Call::Bare => done(link.bare_from_hut()),
         Call::Lose(k) => done(link.lose_mast_bound(k)),
         Call::Deliver(k) => hearing(link.deliver_mast_bound(k)),
         Call::Repeat(k) => hearing(link.repeat_mast_bound(k)),
-        Call::Pass => Answer::Passed(link.pass_at_hut().map(|reading| reading.time)),
+        Call::Pass => Answer::Passed(link.pass_at_hut().map(|element| element.number())),
     }
 }
 
 /// What a call at a side answers.
-pub(crate) fn called<A: Air, B: Air>(
-    link: &mut Link<Reading, Order, A, B>,
+pub(crate) fn called<X: ByNumber, A: Air, B: Air>(
+    link: &mut Link<X, Order, A, B>,
     side: Side,
     call: Call,
 ) -> Answer {
@@ -136,8 +97,8 @@ pub(crate) fn called<A: Air, B: Air>(
 }
 
 /// Makes calls one after another, and fails at the first that does not answer as it should.
-pub(crate) fn check_calls<A: Air, B: Air>(
-    link: &mut Link<Reading, Order, A, B>,
+pub(crate) fn check_calls<X: ByNumber, A: Air, B: Air>(
+    link: &mut Link<X, Order, A, B>,
     calls: &[(Side, Call, Answer)],
 ) -> Result<(), Fail> {
     for (side, call, expected) in calls {

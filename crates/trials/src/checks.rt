@@ -1,7 +1,7 @@
 //! What several tests use.
 use air::{Air, Gauge};
+use element::Kind;
 use element::order::Order;
-use element::reading::Reading;
 use link::{Closed, EndRecord, Link, Record};
 use protocol::{Draft, Terms, least_cycle};
 use refusal::Refusal;
@@ -51,18 +51,18 @@ pub(crate) fn least_draft(readings: (u32, u32), orders: (u32, u32)) -> Result<Dr
 }
 
 /// Opens a link over two airs, which are let go where there is no memory.
-pub(crate) fn open<A: Air + Drop, B: Air + Drop>(
+pub(crate) fn open<X: Kind, A: Air + Drop, B: Air + Drop>(
     alloc: Global,
     draft: Draft,
     hut_bound_air: A,
     mast_bound_air: B,
-) -> Result<Link<Reading, Order, A, B>, AllocError> {
+) -> Result<Link<X, Order, A, B>, AllocError> {
     Ok(Link::open(alloc, draft, hut_bound_air, mast_bound_air)?)
 }
 
 /// Closes a link, and answers its record and how many frames wait in its airs, that to the hut first.
-pub(crate) fn closed<A: Air + Drop, B: Air + Drop>(
-    link: Link<Reading, Order, A, B>,
+pub(crate) fn closed<X: Kind, A: Air + Drop, B: Air + Drop>(
+    link: Link<X, Order, A, B>,
 ) -> (Record, (usize, usize)) {
     let Closed {
         record,

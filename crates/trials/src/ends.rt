@@ -1,6 +1,6 @@
 //! Tests of ends by themselves, and of frames that are written for a draft.
-use crate::calls::{WRONG_READING, order, reading};
 use crate::checks::{check_eq, number_and_place, numbered};
+use crate::kinds::ByNumber;
 use air::{Air, Gauge};
 use element::Kind;
 use element::order::Order;
@@ -150,8 +150,8 @@ fn ends_refuse_bytes(rt: HostRuntime) -> Result<(), Fail> {
         set(10, 11, 14, 9),
         set(22, 4, 15, 22),
     ];
-    refuses_then_hears(&mut mast, draft.format(Side::Hut), order(7), &at_mast)?;
-    refuses_then_hears(&mut hut, draft.format(Side::Mast), reading(7), &at_hut)
+    refuses_then_hears(&mut mast, draft.format(Side::Hut), Order::of(7), &at_mast)?;
+    refuses_then_hears(&mut hut, draft.format(Side::Mast), Reading::of(7), &at_hut)
 }
 
 /// What comes of writing a frame of the mast with a reading for a draft.
@@ -171,7 +171,7 @@ fn written(ack: u16, number: u16, element: Reading) -> Result<usize, (u8, Option
 /// Writing a frame alone tests the acknowledgement, then the number, each on its stream's cycle (14), and then the element (17).
 #[test]
 fn frames_written_for_a_draft(rt: HostRuntime) -> Result<(), Fail> {
-    let dry = reading(1);
+    let dry = Reading::of(1);
     let wet = Reading {
         humidity: 1_001,
         ..dry
@@ -218,7 +218,7 @@ fn ends_over_airs(rt: HostRuntime) -> Result<(), Fail> {
     let mut memory = [0; CELL];
     let mut to_hut = Tight::new(Shelf::new(&mut memory, 9), 3);
     let mut to_mast = Tight::new(Pool::new(9), 0);
-    mast.accept(reading(1))?;
+    mast.accept(Reading::of(1))?;
     check_eq(numbered(mast.send(1, &mut to_hut)), Err(5))?;
     mast.send(0, &mut to_hut)?;
     check_eq(numbered(mast.send(1, &mut to_hut)), Err(5))?;
@@ -226,7 +226,7 @@ fn ends_over_airs(rt: HostRuntime) -> Result<(), Fail> {
     check_eq(numbered(mast.bare(&mut to_hut)), Err(6))?;
     let placed = hut.repeat(0, &mut to_hut)?;
     check_eq(placed.placement, Placement::Slot(0))?;
-    check_eq(hut.pass(), Some(reading(1)))?;
+    check_eq(hut.pass(), Some(Reading::of(1)))?;
     hut.bare(&mut to_mast)?;
     check_eq(mast.deliver(0, &mut to_mast)?.released, 1)?;
     check_eq(hut.deliver(0, &mut to_hut)?.placement, Placement::Outside)?;
@@ -243,12 +243,12 @@ fn ends_refuse_calls(rt: HostRuntime) -> Result<(), Fail> {
     let mut mast = End::<Reading, Order>::new(rt.alloc(), &draft, Side::Mast)?;
     let mut hut = End::<Order, Reading>::new(rt.alloc(), &draft, Side::Hut)?;
     let mut to_hut = Tight::new(Pool::new(9), 0);
-    check_eq(numbered(mast.accept(WRONG_READING)), Err(17))?;
+    check_eq(numbered(mast.accept(Reading::WRONG)), Err(17))?;
     for number in 0..4 {
-        mast.accept(reading(number))?;
+        mast.accept(Reading::of(number))?;
     }
-    check_eq(numbered(mast.accept(reading(4))), Err(4))?;
-    check_eq(numbered(mast.accept(WRONG_READING)), Err(4))?;
+    check_eq(numbered(mast.accept(Reading::of(4))), Err(4))?;
+    check_eq(numbered(mast.accept(Reading::WRONG)), Err(4))?;
     mast.send(0, &mut to_hut)?;
     mast.send(1, &mut to_hut)?;
     check_eq(numbered(hut.deliver(1, &mut to_hut)), Err(8))?;

@@ -1,10 +1,13 @@
 //! Long flights of calls that are drawn, on cycles as short as they may be, compared with the plain model call by call.
-use crate::calls::{Answer, Call, called, number_of, order, reading};
+use crate::calls::{Answer, Call, called};
 use crate::checks::{check_eq, closed, least_draft, next_draw, open, record};
+use crate::kinds::ByNumber;
 use crate::model::Model;
 use air::Air;
 use element::order::Order;
+use element::ozone::Ozone;
 use element::reading::Reading;
+use element::wind::Wind;
 use frame::Side;
 use link::{Link, Owed};
 use pool::{CAPACITY, Pool};
@@ -51,8 +54,8 @@ fn drawn(draw: u32) -> (Side, Call) {
 }
 
 /// One call of a link and of the model: the same answer, and the same is owed.
-fn same_call<A: Air, B: Air>(
-    link: &mut Link<Reading, Order, A, B>,
+fn same_call<X: ByNumber, A: Air, B: Air>(
+    link: &mut Link<X, Order, A, B>,
     model: &mut Model,
     passed: &mut Passed,
     draw: u32,
@@ -73,24 +76,24 @@ fn same_call<A: Air, B: Air>(
 }
 
 /// Both are settled: each list gets the same, from its front, and its other places stay as they were.
-fn same_settle<A: Air, B: Air>(
-    link: &mut Link<Reading, Order, A, B>,
+fn same_settle<X: ByNumber, A: Air, B: Air>(
+    link: &mut Link<X, Order, A, B>,
     model: &mut Model,
     passed: &mut Passed,
     alloc: Global,
 ) -> Result<(), Fail> {
-    let mut mast_list = [order(0); 64];
-    let mut hut_list = [reading(0); 64];
+    let mut mast_list = [Order::of(0); 64];
+    let mut hut_list = vec![in alloc; X::of(0); 64]?;
     let settled = link.settle(&mut mast_list, &mut hut_list)?;
-    let orders: Vec<u32> = mast_list
+    let orders: Vec<u32> = mast_list.iter().map(|order| order.number()).collect(alloc)?;
+    let elements: Vec<u32> = hut_list
         .iter()
-        .map(|order| number_of(*order))
+        .map(|element| element.number())
         .collect(alloc)?;
-    let readings: Vec<u32> = hut_list.iter().map(|reading| reading.time).collect(alloc)?;
     let (at_mast, others) = orders.split_at_checked(settled.mast).ok_or("too many")?;
     check_eq(others.iter().all(|number| *number == 0), true)?;
     passed.at_mast.extend_from_slice(at_mast)?;
-    let (at_hut, others) = readings.split_at_checked(settled.hut).ok_or("too many")?;
+    let (at_hut, others) = elements.split_at_checked(settled.hut).ok_or("too many")?;
     check_eq(others.iter().all(|number| *number == 0), true)?;
     passed.at_hut.extend_from_slice(at_hut)?;
     let (mast, hut) = model.settled(alloc)?;
@@ -99,8 +102,8 @@ fn same_settle<A: Air, B: Air>(
 }
 
 /// So many calls, with a settle now and then and in the end. What each end has passed on is then just what the other has accepted.
-fn flies<A: Air, B: Air>(
-    link: &mut Link<Reading, Order, A, B>,
+fn flies<X: ByNumber, A: Air, B: Air>(
+    link: &mut Link<X, Order, A, B>,
     model: &mut Model,
     alloc: Global,
     calls: usize,
@@ -122,16 +125,17 @@ fn flies<A: Air, B: Air>(
     check_eq(passed.at_hut.as_slice(), model.hut_bound.accepted())
 }
 
-/// A flight of streams with these windows and bounds; answers how many acknowledgements of readings came late.
-fn flown(
+/// A flight of streams with these windows and bounds, with elements of the kind X on their way to the hut; answers how many
+/// acknowledgements of these came late.
+fn flown<X: ByNumber>(
     alloc: Global,
-    readings: (u32, u32),
-    orders: (u32, u32),
+    hut_bound: (u32, u32),
+    mast_bound: (u32, u32),
     calls: usize,
 ) -> Result<usize, Fail> {
-    let draft = least_draft(readings, orders)?;
-    let mut model = Model::new(alloc, readings, orders, CAPACITY);
-    let mut link = open(alloc, draft, Pool::new(255), Pool::new(255))?;
+    let draft = least_draft(hut_bound, mast_bound)?;
+    let mut model = Model::new(alloc, hut_bound, mast_bound, CAPACITY);
+    let mut link = open::<X, _, _>(alloc, draft, Pool::new(255), Pool::new(255))?;
     let outcome = flies(&mut link, &mut model, alloc, calls);
     let left = closed(link);
     outcome?;
@@ -141,10 +145,19 @@ fn flown(
 
 #[test]
 fn flights_like_the_model(rt: HostRuntime) -> Result<(), Fail> {
-    flown(rt.alloc(), (1, 0), (1, 0), 5_000)?;
-    flown(rt.alloc(), (1, 1), (1, 1), 10_000)?;
-    flown(rt.alloc(), (2, 1), (2, 1), 10_000)?;
-    flown(rt.alloc(), (32, 1), (5, 255), 5_000)?;
-    let late = flown(rt.alloc(), (4, 3), (4, 7), 5_000)?;
-    check_eq(late > 20, true)
+    flown::<Reading>(rt.alloc(), (1, 0), (1, 0), 5_000)?;
+    flown::<Reading>(rt.alloc(), (1, 1), (1, 1), 10_000)?;
+    flown::<Reading>(rt.alloc(), (2, 1), (2, 1), 10_000)?;
+    flown::<Reading>(rt.alloc(), (32, 1), (5, 255), 5_000)?;
+    flown::<Ozone>(rt.alloc(), (2, 1), (2, 1), 2_000)?;
+    flown::<Wind>(rt.alloc(), (2, 1), (2, 1), 2_000)?;
+    let late = [
+        flown::<Reading>(rt.alloc(), (4, 3), (4, 7), 5_000)?,
+        flown::<Ozone>(rt.alloc(), (4, 3), (4, 7), 5_000)?,
+        flown::<Wind>(rt.alloc(), (4, 3), (4, 7), 5_000)?,
+    ];
+    for acknowledgements in late {
+        check_eq(acknowledgements > 20, true)?;
+    }
+    Ok(())
 }

@@ -1,10 +1,13 @@
-//! The check against a plain sum, frames with one byte wrong, and frames at the ends of their lengths.
-use crate::checks::number_and_place;
+//! The check against a plain sum, frames with one byte wrong, frames at the ends of their lengths, and frames with ozone and winds.
+use crate::checks::{check_eq, number_and_place};
+use crate::kinds::{ByNumber, ozone, wind};
+use element::Kind;
 use element::order::Order;
 use frame::{Cycles, Format, Frame, LONGEST, Side, hear, write};
 use octets::check_of;
 use std::test::Fail;
 
+/// The frames of the hut, with a cycle of 8 for what it acknowledges and one of 5 for its own numbers.
 const HUT_SENDS: Format = Format {
     sender: Side::Hut,
     cycles: Cycles { ack: 8, number: 5 },
@@ -108,4 +111,71 @@ fn frames_at_the_ends_of_their_lengths(rt: HostRuntime) -> Result<(), Fail> {
     let wrong = hear::<Order>(HUT_SENDS, &area[0..14]).err().ok_or("heard")?;
     assert_eq!(rt; (wrong.number(), wrong.place()), (12, Some(12)));
     Ok(())
+}
+
+/// The frames of the mast, with the same two cycles, each in the other place.
+const MAST_SENDS: Format = Format {
+    sender: Side::Mast,
+    cycles: Cycles { ack: 5, number: 8 },
+};
+
+/// A frame of the mast with an element, under the number 0 and with the acknowledgement 1.
+fn laden<K: Kind>(element: K) -> Frame<K> {
+    Frame::Laden {
+        ack: 1,
+        number: 0,
+        element,
+    }
+}
+
+/// The bytes of such a frame, with these four behind the time of its element, which is 0, and with a right check.
+fn frame_bytes(fields: [u8; 4]) -> [u8; 22] {
+    let mut bytes = [0; 22];
+    bytes[..12].copy_from_slice(b"MHL\x00\x01\x02\x01\x00\x01\x00\x00\x08");
+    bytes[16..20].copy_from_slice(&fields);
+    let check = check_of(&bytes[..20]).to_be_bytes();
+    bytes[20..].copy_from_slice(&check);
+    bytes
+}
+
+/// Each value is written as the frame with these bytes, and heard of it. Where it is no element, the frame is refused by 15 at this place,
+/// and writing it by 17.
+fn frames_hold<K: ByNumber>(table: &[([u8; 4], K, Option<usize>)]) -> Result<(), Fail> {
+    for (fields, value, fault) in table {
+        let bytes = frame_bytes(*fields);
+        let heard = number_and_place(hear::<K>(MAST_SENDS, &bytes));
+        let mut area = [0; LONGEST];
+        let written = number_and_place(write(MAST_SENDS, &laden(*value), &mut area));
+        if fault.is_some() {
+            check_eq(heard, Err((15, *fault)))?;
+            check_eq(written, Err((17, None)))?;
+        } else {
+            check_eq(heard, Ok(laden(*value)))?;
+            check_eq(written, Ok(22))?;
+            check_eq(area.get(..22), Some(bytes.as_slice()))?;
+        }
+    }
+    Ok(())
+}
+
+/// Fields of ozone and of winds at the ends of their ranges and one beyond, and both beyond at once. The same bytes are ozone to an end that
+/// expects ozone, and a wind to one that expects a wind.
+#[test]
+fn frames_with_eight_bytes_of_an_element() -> Result<(), Fail> {
+    frames_hold(&[
+        ([0x04, 0xD2, 0x07, 0xD0], ozone(0, 1_234, 2_000), None),
+        ([0x13, 0x88, 0x13, 0x88], ozone(0, 5_000, 5_000), None),
+        ([0x00, 0x00, 0xEC, 0x78], ozone(0, 0, -5_000), None),
+        ([0x13, 0x89, 0x13, 0x88], ozone(0, 5_001, 5_000), Some(16)),
+        ([0x13, 0x88, 0x13, 0x89], ozone(0, 5_000, 5_001), Some(18)),
+        ([0x00, 0x00, 0xEC, 0x77], ozone(0, 0, -5_001), Some(18)),
+        ([0x13, 0x89, 0xEC, 0x77], ozone(0, 5_001, -5_001), Some(16)),
+    ])?;
+    frames_hold(&[
+        ([0x04, 0xD2, 0x07, 0xD0], wind(0, 1_234, 2_000), None),
+        ([0x8C, 0x9F, 0x00, 0x00], wind(0, 35_999, 0), None),
+        ([0x8C, 0xA0, 0x07, 0xD0], wind(0, 36_000, 2_000), Some(16)),
+        ([0x8C, 0x9F, 0x07, 0xD1], wind(0, 35_999, 2_001), Some(18)),
+        ([0x8C, 0xA0, 0x07, 0xD1], wind(0, 36_000, 2_001), Some(16)),
+    ])
 }

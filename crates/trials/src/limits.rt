@@ -1,8 +1,9 @@
 //! The two histories that the limits of a cycle are about, on the least cycles: a frame, and an acknowledgement, that is delivered after
 //! as many younger ones as the bound allows. On a cycle that is one shorter the first would fill a slot that is not its own, and the
 //! second would release a window of readings that nobody has received.
-use crate::calls::{Answer, Call, check_calls, heard, order, reading};
+use crate::calls::{Answer, Call, check_calls, heard};
 use crate::checks::{check_eq, closed, least_draft, open, record};
+use crate::kinds::ByNumber;
 use air::Air;
 use element::order::Order;
 use element::reading::Reading;
@@ -20,7 +21,7 @@ fn accepts<A: Air, B: Air>(
     end: u32,
 ) -> Result<(), Fail> {
     for number in first..end {
-        link.accept_at_mast(reading(number))?;
+        link.accept_at_mast(Reading::of(number))?;
     }
     Ok(())
 }
@@ -32,7 +33,7 @@ fn passes<A: Air, B: Air>(
     end: u32,
 ) -> Result<(), Fail> {
     for number in first..end {
-        check_eq(link.pass_at_hut(), Some(reading(number)))?;
+        check_eq(link.pass_at_hut(), Some(Reading::of(number)))?;
     }
     Ok(())
 }
@@ -93,7 +94,7 @@ fn late_frame<A: Air, B: Air>(
     acknowledges(link, 0, window as usize)?;
     let last = window.saturating_add(bound);
     for number in window..last {
-        link.accept_at_mast(reading(number))?;
+        link.accept_at_mast(Reading::of(number))?;
         goes_over(link, 0, 1, 1)?;
         passes(link, number, number.saturating_add(1))?;
         acknowledges(link, 0, 1)?;
@@ -134,8 +135,8 @@ fn late_acknowledgement<A: Air, B: Air>(
         (Side::Hut, Call::Deliver(0), heard(0, Placement::Bare)),
     ];
     check_calls(link, &late)?;
-    let mut mast_list = [order(0); 2];
-    let mut hut_list = [reading(0); 64];
+    let mut mast_list = [Order::of(0); 2];
+    let mut hut_list = [Reading::of(0); 64];
     let settled = link.settle(&mut mast_list, &mut hut_list)?;
     check_eq(
         settled,
@@ -144,7 +145,7 @@ fn late_acknowledgement<A: Air, B: Air>(
             hut: window as usize,
         },
     )?;
-    check_eq(hut_list.first(), Some(&reading(number)))
+    check_eq(hut_list.first(), Some(&Reading::of(number)))
 }
 
 /// Both histories, with a window, and the bound in the direction that counts.

@@ -1,11 +1,14 @@
 //! Tests of open links: refusals at both ends, settling, a window of 32 that is full, what opening does to airs, and want of memory.
-use crate::calls::{Answer, Call, check_calls, heard, order, reading};
+use crate::calls::{Answer, Call, check_calls, heard};
 use crate::checks::{check_eq, closed, least_draft, numbered, open, record};
+use crate::kinds::ByNumber;
 use air::{Air, Gauge};
 use element::order::Order;
+use element::ozone::Ozone;
 use element::reading::Reading;
+use element::wind::Wind;
 use frame::Side;
-use link::{Closed, Link, NotOpened, Owed, Settled};
+use link::{Closed, Link, NotOpened, Owed, Record, Settled};
 use pool::{CAPACITY, Pool};
 use protocol::Placement;
 use shelf::Shelf;
@@ -13,7 +16,10 @@ use std::alloc::Global;
 use std::test::Fail;
 
 /// Before anything is accepted at an end, and when its window of 2 is full.
-fn begins<A: Air, B: Air>(link: &mut Link<Reading, Order, A, B>, end: Side) -> Result<(), Fail> {
+fn begins<X: ByNumber, A: Air, B: Air>(
+    link: &mut Link<X, Order, A, B>,
+    end: Side,
+) -> Result<(), Fail> {
     let calls = [
         (end, Call::Pass, Answer::Passed(None)),
         (end, Call::Send(0), Answer::Refused(5)),
@@ -31,7 +37,10 @@ fn begins<A: Air, B: Air>(link: &mut Link<Reading, Order, A, B>, end: Side) -> R
 }
 
 /// Three frames, of which the second overtakes the first, as often as the bound of 1 allows; the third comes late.
-fn goes_over<A: Air, B: Air>(link: &mut Link<Reading, Order, A, B>, end: Side) -> Result<(), Fail> {
+fn goes_over<X: ByNumber, A: Air, B: Air>(
+    link: &mut Link<X, Order, A, B>,
+    end: Side,
+) -> Result<(), Fail> {
     let other = end.other();
     let calls = [
         (end, Call::Send(0), Answer::Done),
@@ -57,7 +66,10 @@ fn goes_over<A: Air, B: Air>(link: &mut Link<Reading, Order, A, B>, end: Side) -
 }
 
 /// As many acknowledgements as the air has room for, and then nothing more goes in until one of them is lost.
-fn fills_up<A: Air, B: Air>(link: &mut Link<Reading, Order, A, B>, end: Side) -> Result<(), Fail> {
+fn fills_up<X: ByNumber, A: Air, B: Air>(
+    link: &mut Link<X, Order, A, B>,
+    end: Side,
+) -> Result<(), Fail> {
     for _ in 0..CAPACITY {
         check_calls(link, &[(end, Call::Bare, Answer::Done)])?;
     }
@@ -75,8 +87,8 @@ fn fills_up<A: Air, B: Air>(link: &mut Link<Reading, Order, A, B>, end: Side) ->
 }
 
 /// Every call at one end, with arguments that are refused and such as are not.
-fn every_call<A: Air, B: Air>(
-    link: &mut Link<Reading, Order, A, B>,
+fn every_call<X: ByNumber, A: Air, B: Air>(
+    link: &mut Link<X, Order, A, B>,
     end: Side,
 ) -> Result<(), Fail> {
     begins(link, end)?;
@@ -84,24 +96,30 @@ fn every_call<A: Air, B: Air>(
     fills_up(link, end)
 }
 
-#[test]
-fn every_call_at_the_mast(rt: HostRuntime) -> Result<(), Fail> {
+/// What is left of a link that was closed: its record, and how many frames wait in its airs.
+type Left = (Record, (usize, usize));
+
+/// Every call at one end of a link with elements of the kind X on their way to the hut, and what is left then.
+fn every_call_with<X: ByNumber>(alloc: Global, end: Side) -> Result<Left, Fail> {
     let draft = least_draft((2, 1), (2, 1))?;
-    let mut link = open(rt.alloc(), draft, Pool::new(9), Pool::new(9))?;
-    let outcome = every_call(&mut link, Side::Mast);
+    let mut link = open::<X, _, _>(alloc, draft, Pool::new(9), Pool::new(9))?;
+    let outcome = every_call(&mut link, end);
     let left = closed(link);
     outcome?;
-    check_eq(left, (record((1, 0), (0, 0)), (CAPACITY - 1, 0)))
+    Ok(left)
 }
 
+/// At either end, with each kind of element that goes to the hut.
 #[test]
-fn every_call_at_the_hut(rt: HostRuntime) -> Result<(), Fail> {
-    let draft = least_draft((2, 1), (2, 1))?;
-    let mut link = open(rt.alloc(), draft, Pool::new(9), Pool::new(9))?;
-    let outcome = every_call(&mut link, Side::Hut);
-    let left = closed(link);
-    outcome?;
-    check_eq(left, (record((0, 1), (0, 0)), (0, CAPACITY - 1)))
+fn every_call_at_both_ends(rt: HostRuntime) -> Result<(), Fail> {
+    let at_mast = (record((1, 0), (0, 0)), (CAPACITY - 1, 0));
+    let at_hut = (record((0, 1), (0, 0)), (0, CAPACITY - 1));
+    for (end, left) in [(Side::Mast, at_mast), (Side::Hut, at_hut)] {
+        check_eq(&every_call_with::<Reading>(rt.alloc(), end)?, &left)?;
+        check_eq(&every_call_with::<Ozone>(rt.alloc(), end)?, &left)?;
+        check_eq(&every_call_with::<Wind>(rt.alloc(), end)?, &left)?;
+    }
+    Ok(())
 }
 
 /// The number by which settling is refused with lists of so many places, at most 8, neither of which is written then.
@@ -110,13 +128,13 @@ fn settle_refused<A: Air, B: Air>(
     mast_places: usize,
     hut_places: usize,
 ) -> Result<Option<u8>, Fail> {
-    let mut mast_list = [order(0); 8];
-    let mut hut_list = [reading(0); 8];
+    let mut mast_list = [Order::of(0); 8];
+    let mut hut_list = [Reading::of(0); 8];
     let mast = mast_list.get_mut(..mast_places).ok_or("too long")?;
     let hut = hut_list.get_mut(..hut_places).ok_or("too long")?;
     let refused = numbered(link.settle(mast, hut)).err();
-    check_eq(mast_list, [order(0); 8])?;
-    check_eq(hut_list, [reading(0); 8])?;
+    check_eq(mast_list, [Order::of(0); 8])?;
+    check_eq(hut_list, [Reading::of(0); 8])?;
     Ok(refused)
 }
 
@@ -135,7 +153,7 @@ fn refuses_lists<A: Air, B: Air>(
 
 /// Where an air has no room, settling is refused, and what is owed stays owed.
 fn stays_owed<A: Air, B: Air>(link: &mut Link<Reading, Order, A, B>) -> Result<(), Fail> {
-    link.accept_at_mast(reading(1))?;
+    link.accept_at_mast(Reading::of(1))?;
     refuses_lists(link, Some(18))?;
     check_eq(link.owed(), Owed { mast: 0, hut: 1 })
 }
@@ -179,7 +197,7 @@ fn accepts_32<A: Air, B: Air>(
     first: u32,
 ) -> Result<(), Fail> {
     for i in 0..32u32 {
-        link.accept_at_mast(reading(first.saturating_add(i)))?;
+        link.accept_at_mast(Reading::of(first.saturating_add(i)))?;
     }
     check_calls(link, &[(Side::Mast, Call::Accept(99), Answer::Refused(4))])
 }
@@ -213,14 +231,14 @@ fn fills_32<A: Air, B: Air>(link: &mut Link<Reading, Order, A, B>) -> Result<(),
     check_calls(link, &calls)?;
     accepts_32(link, 32)?;
     check_eq(link.owed(), Owed { mast: 0, hut: 64 })?;
-    let mut mast_list = [order(0); 2];
-    let mut hut_list = [reading(99); 65];
+    let mut mast_list = [Order::of(0); 2];
+    let mut hut_list = [Reading::of(99); 65];
     let settled = link.settle(&mut mast_list, &mut hut_list)?;
     check_eq(settled, Settled { mast: 0, hut: 64 })?;
     check_eq(
         hut_list
             .iter()
-            .map(|reading| reading.time)
+            .map(|reading| reading.number())
             .eq((0..64u32).chain([99])),
         true,
     )
@@ -257,7 +275,7 @@ fn opening_empties_the_airs(rt: HostRuntime) -> Result<(), Fail> {
     to_mast.put(b"before")?;
     to_mast.put(b"and more")?;
     let draft = least_draft((2, 3), (2, 3))?;
-    let mut link = open(rt.alloc(), draft, to_hut, to_mast)?;
+    let mut link = open::<Reading, _, _>(rt.alloc(), draft, to_hut, to_mast)?;
     let waiting = (
         link.hut_bound_air().waiting(),
         link.mast_bound_air().waiting(),
@@ -283,11 +301,11 @@ fn every_call_and_settling<A: Air, B: Air>(
     link: &mut Link<Reading, Order, A, B>,
 ) -> Result<(), Fail> {
     every_call(link, Side::Mast)?;
-    let mut mast_list = [order(0); 4];
-    let mut hut_list = [reading(0); 4];
+    let mut mast_list = [Order::of(0); 4];
+    let mut hut_list = [Reading::of(0); 4];
     let settled = link.settle(&mut mast_list, &mut hut_list)?;
     check_eq(settled, Settled { mast: 0, hut: 1 })?;
-    check_eq(hut_list.first(), Some(&reading(3)))
+    check_eq(hut_list.first(), Some(&Reading::of(3)))
 }
 
 /// What a link could not be opened with is as it was: the draft, and an air with bound 9 in which one frame waits.

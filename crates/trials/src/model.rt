@@ -36,6 +36,7 @@ pub(crate) struct Stream {
 }
 
 impl Stream {
+    /// A stream with this window and this bound, whose air has room for so many frames.
     fn new(alloc: Global, (window, bound): (u32, u32), capacity: usize) -> Stream {
         Stream {
             window: window as usize,
@@ -66,6 +67,7 @@ impl Stream {
         self.base.saturating_add(filled.count())
     }
 
+    /// The sender takes an element, where its window has room.
     fn accept(&mut self, element: u32) -> Result<Answer, AllocError> {
         if self.elements.len().saturating_sub(self.low) >= self.window {
             return Ok(Answer::Refused(4));
@@ -94,6 +96,7 @@ impl Stream {
         self.put(ack, Some(number))
     }
 
+    /// Frame k is gone.
     fn lose(&mut self, k: usize) -> Answer {
         if k >= self.air.len() {
             return Answer::Refused(7);
@@ -143,6 +146,7 @@ impl Stream {
         }
     }
 
+    /// The receiver passes on its next element, where it has received it.
     fn pass(&mut self) -> Option<u32> {
         let received = *self.received.get(self.base)?;
         if !received {

@@ -1,6 +1,6 @@
 //! Tests of senders and receivers by themselves, and of what a draft says of either side.
-use crate::calls::{WRONG_READING, order, reading};
 use crate::checks::{check_eq, numbered};
+use crate::kinds::ByNumber;
 use element::order::Order;
 use element::reading::Reading;
 use frame::{Cycles, Format, Side};
@@ -9,18 +9,21 @@ use refusal::Refusal;
 use std::test::Fail;
 use window::{Receiver, Sender};
 
+/// The terms of the readings of these tests.
 const READINGS: Terms = Terms {
     window: 3,
     bound: 1,
     cycle: 7,
 };
 
+/// The terms of their orders.
 const ORDERS: Terms = Terms {
     window: 2,
     bound: 0,
     cycle: 5,
 };
 
+/// Both as a draft.
 fn drafted() -> Result<Draft, Refusal> {
     Draft::new(READINGS, ORDERS)
 }
@@ -66,12 +69,12 @@ fn new_windows(rt: HostRuntime) -> Result<(), Fail> {
 
 /// A sender accepts three readings from a number on, and is full then: 4 is told before 17.
 fn fills(sender: &mut Sender<Reading>, first: u32) -> Result<(), Fail> {
-    check_eq(numbered(sender.accept(WRONG_READING)), Err(17))?;
+    check_eq(numbered(sender.accept(Reading::WRONG)), Err(17))?;
     for number in first..first.saturating_add(3) {
-        sender.accept(reading(number))?;
+        sender.accept(Reading::of(number))?;
     }
-    check_eq(numbered(sender.accept(reading(0))), Err(4))?;
-    check_eq(numbered(sender.accept(WRONG_READING)), Err(4))?;
+    check_eq(numbered(sender.accept(Reading::of(0))), Err(4))?;
+    check_eq(numbered(sender.accept(Reading::WRONG)), Err(4))?;
     check_eq(sender.held(), 3)
 }
 
@@ -88,20 +91,20 @@ fn releases(sender: &mut Sender<Reading>, table: &[(u16, usize)]) -> Result<(), 
 fn senders_hold_and_release(rt: HostRuntime) -> Result<(), Fail> {
     let mut sender = Sender::new(rt.alloc(), &drafted()?, Side::Mast)?;
     fills(&mut sender, 0)?;
-    check_eq(sender.get(2), Some((2, reading(2))))?;
+    check_eq(sender.get(2), Some((2, Reading::of(2))))?;
     check_eq((sender.get(3), sender.next()), (None, 3))?;
     releases(
         &mut sender,
         &[(0, 0), (4, 0), (6, 0), (2, 2), (0, 0), (1, 0)],
     )?;
-    check_eq(sender.get(0), Some((2, reading(2))))?;
+    check_eq(sender.get(0), Some((2, Reading::of(2))))?;
     check_eq((sender.get(1), sender.next()), (None, 3))?;
     releases(&mut sender, &[(3, 1), (2, 0), (3, 0)])?;
     fills(&mut sender, 3)?;
     releases(&mut sender, &[(6, 3)])?;
     fills(&mut sender, 6)?;
-    check_eq(sender.get(0), Some((6, reading(6))))?;
-    check_eq(sender.get(1), Some((0, reading(7))))?;
+    check_eq(sender.get(0), Some((6, Reading::of(6))))?;
+    check_eq(sender.get(1), Some((0, Reading::of(7))))?;
     check_eq((sender.get(usize::MAX), sender.next()), (None, 2))?;
     releases(&mut sender, &[(3, 0), (5, 0), (1, 2), (6, 0), (2, 1)])?;
     check_eq((sender.held(), sender.next()), (0, 2))
@@ -111,7 +114,10 @@ fn senders_hold_and_release(rt: HostRuntime) -> Result<(), Fail> {
 fn places(receiver: &mut Receiver<Order>, table: &[(u16, Option<usize>)]) -> Result<(), Fail> {
     for (number, slot) in table {
         let expected = slot.map_or(Placement::Outside, Placement::Slot);
-        check_eq(receiver.place(*number, order(u32::from(*number))), expected)?;
+        check_eq(
+            receiver.place(*number, Order::of(u32::from(*number))),
+            expected,
+        )?;
     }
     Ok(())
 }
@@ -119,7 +125,7 @@ fn places(receiver: &mut Receiver<Order>, table: &[(u16, Option<usize>)]) -> Res
 /// A receiver passes on the orders with these numbers, in sequence, and then none.
 fn passes(receiver: &mut Receiver<Order>, numbers: &[u32]) -> Result<(), Fail> {
     for number in numbers {
-        check_eq(receiver.pass(), Some(order(*number)))?;
+        check_eq(receiver.pass(), Some(Order::of(*number)))?;
     }
     check_eq(receiver.pass(), None)
 }
@@ -135,7 +141,7 @@ fn receivers_place_and_pass(rt: HostRuntime) -> Result<(), Fail> {
     check_eq((receiver.placed(), receiver.next_free()), (2, 0))?;
     check_eq((receiver.behind(3), receiver.behind(0)), (3, 7))?;
     passes(&mut receiver, &[])?;
-    check_eq(receiver.place(0, order(9)), Placement::Slot(0))?;
+    check_eq(receiver.place(0, Order::of(9)), Placement::Slot(0))?;
     places(&mut receiver, &[(0, Some(0)), (2, Some(2))])?;
     check_eq((receiver.placed(), receiver.next_free()), (3, 3))?;
     passes(&mut receiver, &[0, 1, 2])?;
@@ -182,7 +188,7 @@ fn the_widest_receiver(rt: HostRuntime) -> Result<(), Fail> {
         (32, 63, 64),
     )?;
     places(&mut receiver, &[(32, None), (63, None)])?;
-    check_eq(receiver.pass(), Some(order(0)))?;
+    check_eq(receiver.pass(), Some(Order::of(0)))?;
     check_eq((receiver.placed(), receiver.next_free()), (31, 32))?;
     places(&mut receiver, &[(0, None), (32, Some(31))])?;
     check_eq((receiver.placed(), receiver.next_free()), (32, 33))
