@@ -1,16 +1,22 @@
 //! The balloon: how it climbs, bursts and falls, and what its instruments read.
 use crate::draws::Draws;
-use crate::weather::{fall_at, humidity_at, pressure_at, temperature_at};
+use crate::weather::{
+    cell_temperature_at, fall_at, humidity_at, ozone_at, pressure_at, temperature_at,
+};
 use element::Kind;
+use element::ozone::Ozone;
 use element::reading::Reading;
 
 /// The second at which the balloon bursts.
 const BURST: u32 = 6_050;
 
-/// So many seconds before the burst the flight is told call by call.
+/// So many seconds before the burst the ozone cell is switched off, and from there on the flight is told call by call.
 const NEAR_BURST: u32 = 10;
 
-/// At this height it is a few seconds from the ground, in decimetres.
+/// At this height the ozone cell is switched on, in decimetres.
+const OZONE_HEIGHT: u32 = 100_000;
+
+/// At this height the balloon is a few seconds from the ground, in decimetres.
 const NEAR_GROUND: u32 = 280;
 
 /// How much faster a falling balloon may get in a second, in decimetres a second.
@@ -19,7 +25,11 @@ const GRAVITY: u32 = 98;
 /// A leg of the flight.
 #[derive(Clone, Copy)]
 pub(crate) enum Leg {
-    Up,
+    /// Up to where the ozone cell is switched on.
+    Low,
+    /// From there up to a few seconds before the burst.
+    High,
+    /// From the burst down to a few seconds before the ground.
     Down,
 }
 
@@ -33,16 +43,18 @@ pub(crate) struct Balloon {
     /// How fast it falls, in decimetres a second; 0 as long as it climbs.
     fall: u32,
     draws: Draws,
+    ozone_draws: Draws,
 }
 
 impl Balloon {
-    /// A balloon at its release.
-    pub(crate) fn released(draws: Draws) -> Balloon {
+    /// A balloon at its release. The ozone cell's noise is drawn apart from all else.
+    pub(crate) fn released(draws: Draws, ozone_draws: Draws) -> Balloon {
         Balloon {
             second: 0,
             height: 0,
             fall: 0,
             draws,
+            ozone_draws,
         }
     }
 
@@ -61,10 +73,11 @@ impl Balloon {
         self.second >= BURST
     }
 
-    /// Whether it is at the end of a leg: within seconds it will burst, or be on the ground.
+    /// Whether it is at the end of a leg: where the ozone cell is switched on, or a few seconds before it bursts or is on the ground.
     pub(crate) fn has_flown(&self, leg: Leg) -> bool {
         match leg {
-            Leg::Up => self.second >= BURST - NEAR_BURST,
+            Leg::Low => self.height >= OZONE_HEIGHT,
+            Leg::High => self.second >= BURST - NEAR_BURST,
             Leg::Down => self.has_burst() && self.height <= NEAR_GROUND,
         }
     }
@@ -82,6 +95,20 @@ impl Balloon {
             pressure: u16::try_from(pressure)?,
         };
         Ok(reading.make()?)
+    }
+
+    /// What the ozone cell reads now, with a little noise.
+    pub(crate) fn ozone(&mut self) -> anyhow::Result<Ozone> {
+        let partial_pressure = ozone_at(self.height).saturating_add(self.ozone_draws.about_zero(3));
+        let cell_temperature = cell_temperature_at(self.height).saturating_add(
+            self.ozone_draws.about_zero(4),
+        );
+        let ozone = Ozone {
+            time: self.second.saturating_mul(10),
+            partial_pressure: u16::try_from(partial_pressure)?,
+            cell_temperature: i16::try_from(cell_temperature)?,
+        };
+        Ok(ozone.make()?)
     }
 
     /// A second goes by: it climbs at about 5 m/s, or falls faster than in the second before, but no faster than the air lets it.

@@ -4,34 +4,45 @@ use crate::calls::{tell_accepting, tell_delivering, tell_passing, tell_repeating
 use crate::draft::WINDOW;
 use crate::journey::Journey;
 use crate::late::{TOO_SHORT, released_on_too_short};
+use element::reading::Reading;
 
-/// In a second each, the mast accepts as many readings as it may hold; it sends each of them, and the relay hands it over.
-fn tell_bringing(rt: &impl Print, link: &mut Flight, journey: &mut Journey) -> anyhow::Result<()> {
+/// The mast accepts as many readings as it may hold, one in a second; it sends each of them, and the relay hands it over.
+fn tell_bringing(
+    rt: &impl Print,
+    link: &mut Flight<Reading>,
+    journey: &mut Journey,
+) -> anyhow::Result<()> {
     tell_accepting(rt, link, journey, WINDOW as usize)?;
     tell_sending(rt, link, journey)
 }
 
 /// The mast sends each reading that it holds, and the relay hands it over; the hut passes all of them on.
-fn tell_sending(rt: &impl Print, link: &mut Flight, journey: &mut Journey) -> anyhow::Result<()> {
+fn tell_sending(
+    rt: &impl Print,
+    link: &mut Flight<Reading>,
+    journey: &mut Journey,
+) -> anyhow::Result<()> {
+    let (readings, orders) = journey.first.streams();
     println!(rt; "It sends each of them, and the relay hands it over:")?;
-    for place in 0..journey.readings.held() {
-        journey.readings.send(link, &journey.orders, place)?;
-        tell_delivering(rt, link, &mut journey.readings, &mut journey.orders, 0)?;
+    for place in 0..readings.held() {
+        readings.send(link, orders, place)?;
+        tell_delivering(rt, link, readings, orders, 0)?;
     }
-    tell_passing(rt, link, journey)
+    tell_passing(rt, link, readings)
 }
 
 /// The hut acknowledges; the relay hands over a copy of that frame and holds back the frame itself.
 fn tell_holding_back(
     rt: &impl Print,
-    link: &mut Flight,
+    link: &mut Flight<Reading>,
     journey: &mut Journey,
 ) -> anyhow::Result<()> {
     println!(rt; "Near burst height, the mast accepts:")?;
     tell_bringing(rt, link, journey)?;
-    journey.orders.bare(link, &journey.readings)?;
+    let (readings, orders) = journey.first.streams();
+    orders.bare(link, readings)?;
     println!(rt; "The hut acknowledges. The relay hands over a copy, and holds back the frame:")?;
-    tell_repeating(rt, link, &mut journey.orders, &mut journey.readings, 0)?;
+    tell_repeating(rt, link, orders, readings, 0)?;
     tell_waiting(rt, link.mast_bound_air())?;
     Ok(())
 }
@@ -39,33 +50,35 @@ fn tell_holding_back(
 /// The hut acknowledges more readings, and that overtakes the acknowledgement which is held back.
 fn tell_passing_by(
     rt: &impl Print,
-    link: &mut Flight,
+    link: &mut Flight<Reading>,
     journey: &mut Journey,
 ) -> anyhow::Result<()> {
     println!(rt; "The mast accepts:")?;
     tell_bringing(rt, link, journey)?;
-    journey.orders.bare(link, &journey.readings)?;
+    let (readings, orders) = journey.first.streams();
+    orders.bare(link, readings)?;
     println!(rt; "The hut acknowledges. This frame overtakes the one that is held back:")?;
-    tell_delivering(rt, link, &mut journey.orders, &mut journey.readings, 1)?;
+    tell_delivering(rt, link, orders, readings, 1)?;
     tell_waiting(rt, link.mast_bound_air())?;
     Ok(())
 }
 
-/// The balloon bursts, and the acknowledgement that was held back comes before any of these readings is sent. It says that so many readings
-/// have come; by now, more are released.
+/// The balloon bursts, and the acknowledgement that was held back comes before any of these readings is sent. It is of so many
+/// readings; by now, more are released.
 fn tell_late(
     rt: &impl Print,
-    link: &mut Flight,
+    link: &mut Flight<Reading>,
     journey: &mut Journey,
     acknowledged: usize,
 ) -> anyhow::Result<()> {
     println!(rt; "The balloon bursts. The mast accepts:")?;
     tell_accepting(rt, link, journey, WINDOW as usize)?;
-    let (released, held) = (journey.readings.released, journey.readings.held());
+    let (readings, orders) = journey.first.streams();
+    let (released, held) = (readings.released, readings.held());
     println!(rt;
         "Only now comes the acknowledgement that was held back. It is of {acknowledged} readings; {released} are released:"
     )?;
-    tell_delivering(rt, link, &mut journey.orders, &mut journey.readings, 0)?;
+    tell_delivering(rt, link, orders, readings, 0)?;
     println!(rt;
         "    On a cycle of {TOO_SHORT}, twice the window, it would release {} of the {} that the hut has still to get.",
         released_on_too_short(acknowledged, released, held)?,
@@ -78,11 +91,11 @@ fn tell_late(
 /// The seconds around the burst.
 pub(crate) fn tell_burst(
     rt: &impl Print,
-    link: &mut Flight,
+    link: &mut Flight<Reading>,
     journey: &mut Journey,
 ) -> anyhow::Result<()> {
     tell_holding_back(rt, link, journey)?;
-    let acknowledged = journey.readings.passed.len();
+    let acknowledged = journey.first.hut_bound.passed.len();
     tell_passing_by(rt, link, journey)?;
     tell_late(rt, link, journey, acknowledged)
 }

@@ -1,133 +1,90 @@
-//! The two streams of the link by one text: the link's calls by the kind of element that the stream carries.
+//! The kinds of element that the flight's links carry, with those calls of a link that are of one kind. The calls that go by the side
+//! alone are in `sides`.
 use crate::Flight;
-use air::Gauge;
 use element::Kind;
 use element::order::Order;
+use element::ozone::Ozone;
 use element::reading::Reading;
-use link::Hearing;
+use frame::Side;
 use refusal::Refusal;
+use telling::READING;
 
-/// A kind of element that the link carries, with the calls of its stream. Places count from 0, the oldest.
+/// A kind of element that some link of the flight carries.
 pub(crate) trait Carried: Kind + PartialEq {
     /// One of its elements is called so.
     const ONE: &'static str;
 
-    /// The end that the stream comes from.
-    const SENDER: &'static str;
+    /// The side that its stream comes from.
+    const SENDER: Side;
 
-    /// The end that it is bound for.
-    const RECEIVER: &'static str;
+    /// What the places of a list hold before it is lent to settling.
+    const PLACEHOLDER: Self;
+}
 
-    /// What that end holds, which is what the other stream carries.
-    const RECEIVER_HOLDS: &'static str;
-
+/// A kind of element that links of the type L carry.
+pub(crate) trait CarriedBy<L>: Carried {
     /// The sender accepts an element.
-    fn accept(link: &mut Flight, element: Self) -> Result<(), Refusal>;
-
-    /// The sender sends the element at a place of those that it holds.
-    fn send(link: &mut Flight, place: usize) -> Result<(), Refusal>;
-
-    /// The sender sends its acknowledgement alone.
-    fn bare(link: &mut Flight) -> Result<(), Refusal>;
-
-    /// The frame at a place is lost.
-    fn lose(link: &mut Flight, place: usize) -> Result<(), Refusal>;
-
-    /// The frame at a place is handed over.
-    fn deliver(link: &mut Flight, place: usize) -> Result<Hearing, Refusal>;
-
-    /// The frame at a place is handed over, and waits still.
-    fn repeat(link: &mut Flight, place: usize) -> Result<Hearing, Refusal>;
+    fn accept(link: &mut L, element: Self) -> Result<(), Refusal>;
 
     /// The receiver passes on an element.
-    fn pass(link: &mut Flight) -> Option<Self>;
-
-    /// Whether the air has room for a frame.
-    fn has_room(link: &Flight) -> bool;
+    fn pass(link: &mut L) -> Option<Self>;
 }
 
 impl Carried for Reading {
     const ONE: &'static str = "reading";
 
-    const SENDER: &'static str = "mast";
+    const SENDER: Side = Side::Mast;
 
-    const RECEIVER: &'static str = "hut";
+    const PLACEHOLDER: Reading = READING;
+}
 
-    const RECEIVER_HOLDS: &'static str = "orders";
-
-    fn accept(link: &mut Flight, element: Self) -> Result<(), Refusal> {
+impl CarriedBy<Flight<Reading>> for Reading {
+    fn accept(link: &mut Flight<Reading>, element: Reading) -> Result<(), Refusal> {
         link.accept_at_mast(element)
     }
 
-    fn send(link: &mut Flight, place: usize) -> Result<(), Refusal> {
-        link.send_from_mast(place)
-    }
-
-    fn bare(link: &mut Flight) -> Result<(), Refusal> {
-        link.bare_from_mast()
-    }
-
-    fn lose(link: &mut Flight, place: usize) -> Result<(), Refusal> {
-        link.lose_hut_bound(place)
-    }
-
-    fn deliver(link: &mut Flight, place: usize) -> Result<Hearing, Refusal> {
-        link.deliver_hut_bound(place)
-    }
-
-    fn repeat(link: &mut Flight, place: usize) -> Result<Hearing, Refusal> {
-        link.repeat_hut_bound(place)
-    }
-
-    fn pass(link: &mut Flight) -> Option<Self> {
+    fn pass(link: &mut Flight<Reading>) -> Option<Reading> {
         link.pass_at_hut()
     }
+}
 
-    fn has_room(link: &Flight) -> bool {
-        let air = link.hut_bound_air();
-        air.waiting() < air.capacity()
+impl Carried for Ozone {
+    const ONE: &'static str = "ozone measurement";
+
+    const SENDER: Side = Side::Mast;
+
+    const PLACEHOLDER: Ozone = Ozone {
+        time: 0,
+        partial_pressure: 0,
+        cell_temperature: 0,
+    };
+}
+
+impl CarriedBy<Flight<Ozone>> for Ozone {
+    fn accept(link: &mut Flight<Ozone>, element: Ozone) -> Result<(), Refusal> {
+        link.accept_at_mast(element)
+    }
+
+    fn pass(link: &mut Flight<Ozone>) -> Option<Ozone> {
+        link.pass_at_hut()
     }
 }
 
 impl Carried for Order {
     const ONE: &'static str = "order";
 
-    const SENDER: &'static str = "hut";
+    const SENDER: Side = Side::Hut;
 
-    const RECEIVER: &'static str = "mast";
+    const PLACEHOLDER: Order = Order::Note { number: 0 };
+}
 
-    const RECEIVER_HOLDS: &'static str = "readings";
-
-    fn accept(link: &mut Flight, element: Self) -> Result<(), Refusal> {
+/// Orders go back on every link.
+impl<X: Kind> CarriedBy<Flight<X>> for Order {
+    fn accept(link: &mut Flight<X>, element: Order) -> Result<(), Refusal> {
         link.accept_at_hut(element)
     }
 
-    fn send(link: &mut Flight, place: usize) -> Result<(), Refusal> {
-        link.send_from_hut(place)
-    }
-
-    fn bare(link: &mut Flight) -> Result<(), Refusal> {
-        link.bare_from_hut()
-    }
-
-    fn lose(link: &mut Flight, place: usize) -> Result<(), Refusal> {
-        link.lose_mast_bound(place)
-    }
-
-    fn deliver(link: &mut Flight, place: usize) -> Result<Hearing, Refusal> {
-        link.deliver_mast_bound(place)
-    }
-
-    fn repeat(link: &mut Flight, place: usize) -> Result<Hearing, Refusal> {
-        link.repeat_mast_bound(place)
-    }
-
-    fn pass(link: &mut Flight) -> Option<Self> {
+    fn pass(link: &mut Flight<X>) -> Option<Order> {
         link.pass_at_mast()
-    }
-
-    fn has_room(link: &Flight) -> bool {
-        let air = link.mast_bound_air();
-        air.waiting() < air.capacity()
     }
 }

@@ -7,21 +7,27 @@ use crate::calls::{
 use crate::draft::WINDOW;
 use crate::journey::Journey;
 use crate::orders::TUNING;
+use element::reading::Reading;
 use telling::Told;
 
 /// The mast accepts as many readings as it may hold, tries one more, and sends what it holds.
-fn tell_sending(rt: &impl Print, link: &mut Flight, journey: &mut Journey) -> anyhow::Result<()> {
+fn tell_sending(
+    rt: &impl Print,
+    link: &mut Flight<Reading>,
+    journey: &mut Journey,
+) -> anyhow::Result<()> {
     println!(rt; "The balloon is released. Each second the mast accepts a reading:")?;
     tell_accepting(rt, link, journey, WINDOW as usize)?;
     journey.read()?;
-    match journey.readings.accept(link)? {
+    let (readings, orders) = journey.first.streams();
+    match readings.accept(link)? {
         Ok(_) => println!(rt; "It accepts one more.")?,
         Err(refusal) => println!(rt;
             "One more it does not accept: {refusal}. That one is queued."
         )?,
     }
-    for place in 0..journey.readings.held() {
-        journey.readings.send(link, &journey.orders, place)?;
+    for place in 0..readings.held() {
+        readings.send(link, orders, place)?;
     }
     println!(rt; "It sends all that it holds.")?;
     tell_waiting(rt, link.hut_bound_air())?;
@@ -31,10 +37,10 @@ fn tell_sending(rt: &impl Print, link: &mut Flight, journey: &mut Journey) -> an
 /// The relay loses the second frame, and lets others overtake the first as often as the bound allows.
 fn tell_overtaking(
     rt: &impl Print,
-    link: &mut Flight,
+    link: &mut Flight<Reading>,
     journey: &mut Journey,
 ) -> anyhow::Result<()> {
-    let (readings, orders) = (&mut journey.readings, &mut journey.orders);
+    let (readings, orders) = journey.first.streams();
     readings.lose(link, 1)?;
     println!(rt;
         "The relay loses the second frame, and lets the third and the fourth overtake the first:"
@@ -56,21 +62,31 @@ fn tell_overtaking(
 }
 
 /// The relay repeats the first frame, and then hands over both that wait; the second of them brings nothing new.
-fn tell_coming(rt: &impl Print, link: &mut Flight, journey: &mut Journey) -> anyhow::Result<()> {
+fn tell_coming(
+    rt: &impl Print,
+    link: &mut Flight<Reading>,
+    journey: &mut Journey,
+) -> anyhow::Result<()> {
+    let (readings, orders) = journey.first.streams();
     println!(rt; "The relay repeats the first frame, and then hands it over:")?;
-    tell_repeating(rt, link, &mut journey.readings, &mut journey.orders, 0)?;
-    tell_delivering(rt, link, &mut journey.readings, &mut journey.orders, 0)?;
-    tell_passing(rt, link, journey)?;
+    tell_repeating(rt, link, readings, orders, 0)?;
+    tell_delivering(rt, link, readings, orders, 0)?;
+    tell_passing(rt, link, readings)?;
     println!(rt; "Now comes the frame that was held back:")?;
-    tell_delivering(rt, link, &mut journey.readings, &mut journey.orders, 0)
+    tell_delivering(rt, link, readings, orders, 0)
 }
 
 /// The hut sends an order, whose frame acknowledges the readings; the mast passes it on.
-fn tell_order(rt: &impl Print, link: &mut Flight, journey: &mut Journey) -> anyhow::Result<()> {
+fn tell_order(
+    rt: &impl Print,
+    link: &mut Flight<Reading>,
+    journey: &mut Journey,
+) -> anyhow::Result<()> {
     println!(rt; "The hut sends an order, and acknowledges the readings with it:")?;
-    tell_ordering(rt, link, journey, TUNING)?;
-    tell_delivering(rt, link, &mut journey.orders, &mut journey.readings, 0)?;
-    match journey.orders.pass(link)? {
+    let (readings, orders) = journey.first.streams();
+    tell_ordering(rt, link, readings, orders, TUNING)?;
+    tell_delivering(rt, link, orders, readings, 0)?;
+    match orders.pass(link)? {
         Some(order) => println!(rt; "The mast passes on: {}.", Told(order))?,
         None => println!(rt; "The mast has nothing to pass on.")?,
     }
@@ -78,19 +94,24 @@ fn tell_order(rt: &impl Print, link: &mut Flight, journey: &mut Journey) -> anyh
 }
 
 /// The reading that was queued is accepted and sent, and its frame acknowledges the order.
-fn tell_queued(rt: &impl Print, link: &mut Flight, journey: &mut Journey) -> anyhow::Result<()> {
-    let reading = journey.readings.accept(link)??;
+fn tell_queued(
+    rt: &impl Print,
+    link: &mut Flight<Reading>,
+    journey: &mut Journey,
+) -> anyhow::Result<()> {
+    let (readings, orders) = journey.first.streams();
+    let reading = readings.accept(link)??;
     println!(rt; "Now the mast accepts the queued reading, and sends it:")?;
     println!(rt; "    {}", Told(reading))?;
-    journey.readings.send(link, &journey.orders, 0)?;
-    tell_delivering(rt, link, &mut journey.readings, &mut journey.orders, 0)?;
-    tell_passing(rt, link, journey)
+    readings.send(link, orders, 0)?;
+    tell_delivering(rt, link, readings, orders, 0)?;
+    tell_passing(rt, link, readings)
 }
 
 /// The first seconds of the flight.
 pub(crate) fn tell_climb(
     rt: &impl Print,
-    link: &mut Flight,
+    link: &mut Flight<Reading>,
     journey: &mut Journey,
 ) -> anyhow::Result<()> {
     tell_sending(rt, link, journey)?;

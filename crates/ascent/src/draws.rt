@@ -5,14 +5,14 @@ use rand_pcg::Pcg32;
 /// Where each sequence starts.
 const SEED: u64 = 2_026;
 
-/// A generator of the PCG family. Generators of different streams give different sequences.
+/// A generator of the PCG family. Each of its sequences has a number.
 #[derive(Drop)]
 pub(crate) struct Draws(Pcg32);
 
 impl Draws {
-    /// The generator of a stream, at its start.
-    pub(crate) fn new(stream: u64) -> Draws {
-        Draws(Pcg32::new(SEED, stream))
+    /// The generator of the sequence of this number, at its start.
+    pub(crate) fn new(sequence: u64) -> Draws {
+        Draws(Pcg32::new(SEED, sequence))
     }
 
     /// A number from 0 to `most`.

@@ -1,108 +1,76 @@
-//! The flight second by second: the balloon's instruments read, both ends speak, and the relays hand over.
+//! The flight second by second: the balloon's instruments read, and the links carry what they read.
 use crate::Flight;
 use crate::balloon::Balloon;
 use crate::draws::Draws;
 use crate::orders::order_at;
 use crate::relay::Relay;
-use crate::stream::Stream;
-use crate::turns::{fly_stream, rest_stream};
-use anyhow::ensure;
-use element::order::Order;
+use crate::traffic::Traffic;
+use element::ozone::Ozone;
 use element::reading::Reading;
-use link::Owed;
 use protocol::Draft;
 use std::alloc::Global;
 
-/// How many turns each stream has at most to come to rest.
-const TURNS: u32 = 1_000;
-
-/// What the flight keeps besides its link.
+/// What the flight keeps besides its links.
 #[derive(Drop)]
 pub(crate) struct Journey {
     pub balloon: Balloon,
-    to_hut: Relay,
-    to_mast: Relay,
-    pub readings: Stream<Reading>,
-    pub orders: Stream<Order>,
-    /// How often what the link owes was compared with the books.
-    pub compared: u32,
-    /// How often the two were not the same.
-    pub astray: u32,
+    /// Of the first link, from the release to the ground.
+    pub first: Traffic<Reading>,
+    /// Of the ozone link, which is there for a part of the way up.
+    pub ozone: Traffic<Ozone>,
 }
 
 impl Journey {
-    /// A journey before its first second.
+    /// A journey before its first second. Both links are drafted alike. The balloon, each relay and the ozone cell draw from a sequence of
+    /// their own.
     pub(crate) fn new(alloc: Global, draft: &Draft) -> Journey {
         Journey {
-            balloon: Balloon::released(Draws::new(0)),
-            to_hut: Relay::new(Draws::new(1)),
-            to_mast: Relay::new(Draws::new(2)),
-            readings: Stream::new(alloc, draft.hut_bound()),
-            orders: Stream::new(alloc, draft.mast_bound()),
-            compared: 0,
-            astray: 0,
+            balloon: Balloon::released(Draws::new(0), Draws::new(5)),
+            first: Traffic::new(
+                alloc,
+                draft,
+                Relay::new(Draws::new(1)),
+                Relay::new(Draws::new(2)),
+            ),
+            ozone: Traffic::new(
+                alloc,
+                draft,
+                Relay::new(Draws::new(3)),
+                Relay::new(Draws::new(4)),
+            ),
         }
     }
 
-    /// The instruments read, and a second goes by.
+    /// The instruments read, and a second goes by; what they read is queued at the mast.
     pub(crate) fn read(&mut self) -> anyhow::Result<()> {
         let reading = self.balloon.read()?;
-        self.readings.made.push(reading)?;
+        self.first.hut_bound.made.push(reading)?;
         Ok(())
     }
 
     /// The hut makes an order, if it is time for one.
     fn order(&mut self) -> anyhow::Result<()> {
         if let Some(order) = order_at(self.balloon.second(), self.balloon.height())? {
-            self.orders.made.push(order)?;
+            self.first.mast_bound.made.push(order)?;
         }
         Ok(())
     }
 
-    /// Compares what the link owes with the books.
-    fn compare(&mut self, link: &Flight) {
-        let owed = Owed {
-            mast: self.orders.owed(),
-            hut: self.readings.owed(),
-        };
-        self.compared = self.compared.saturating_add(1);
-        if link.owed() != owed {
-            self.astray = self.astray.saturating_add(1);
-        }
-    }
-
-    /// A second of the flight.
-    pub(crate) fn fly(&mut self, link: &mut Flight) -> anyhow::Result<()> {
+    /// A second of the flight over the first link.
+    pub(crate) fn fly(&mut self, link: &mut Flight<Reading>) -> anyhow::Result<()> {
         self.read()?;
-        fly_stream(link, &mut self.to_hut, &mut self.readings, &mut self.orders)?;
         self.order()?;
-        fly_stream(
-            link,
-            &mut self.to_mast,
-            &mut self.orders,
-            &mut self.readings,
-        )?;
-        self.compare(link);
-        Ok(())
+        self.first.fly(link)
     }
 
-    /// Whether all that was made is accepted, neither end holds anything, and no frame waits.
-    fn is_at_rest(&self) -> bool {
-        self.readings.is_at_rest() && self.orders.is_at_rest()
-    }
-
-    /// Brings both streams to rest by ordinary calls, while the relays hand over everything: what was made is accepted, sent, passed on and
-    /// acknowledged.
-    pub(crate) fn rest(&mut self, link: &mut Flight) -> anyhow::Result<()> {
-        for _ in 0..TURNS {
-            if self.is_at_rest() {
-                break;
-            }
-            rest_stream(link, &mut self.readings, &mut self.orders)?;
-            rest_stream(link, &mut self.orders, &mut self.readings)?;
-        }
-        ensure!(self.is_at_rest(), "the streams have not come to rest");
-        self.compare(link);
-        Ok(())
+    /// A second of the flight over both links. The ozone cell is read, too.
+    pub(crate) fn fly_both(
+        &mut self,
+        link: &mut Flight<Reading>,
+        ozone_link: &mut Flight<Ozone>,
+    ) -> anyhow::Result<()> {
+        self.ozone.hut_bound.made.push(self.balloon.ozone()?)?;
+        self.fly(link)?;
+        self.ozone.fly(ozone_link)
     }
 }

@@ -9,7 +9,7 @@ pub(crate) const TUNING: Order = Order::Tune { khz: 403_500 };
 const WIND: u64 = 80;
 
 /// The pointing at a balloon of this height, in decimetres, so many seconds from release. Its bearing turns by a hundredth of a degree each
-/// second. Its elevation is the part that the height has of height and distance together, of 90 degrees.
+/// second. Its elevation is as much of 90 degrees as the height is of height and distance together.
 pub(crate) fn pointing_at(second: u32, height: u32) -> anyhow::Result<Order> {
     let distance = u64::from(second) * WIND + 1;
     let height = u64::from(height);
@@ -20,8 +20,8 @@ pub(crate) fn pointing_at(second: u32, height: u32) -> anyhow::Result<Order> {
     Ok(order.make()?)
 }
 
-/// The order that the hut makes in a second: once a minute a pointing, but a tuning and a note in their place, each once in a quarter of an
-/// hour.
+/// The order that the hut makes in a second: once a minute a pointing, or in its place, each once in a quarter of an hour, a tuning or a
+/// note.
 pub(crate) fn order_at(second: u32, height: u32) -> anyhow::Result<Option<Order>> {
     if second % 60 != 30 {
         return Ok(None);

@@ -3,13 +3,14 @@ use crate::Flight;
 use crate::carried::Carried;
 use crate::draws::Draws;
 use crate::stream::Stream;
+use element::Kind;
 use refusal::Refusal;
 
 /// A relay on the way of one stream.
 #[derive(Drop)]
 pub(crate) struct Relay {
     draws: Draws,
-    /// For how many more seconds it is silent.
+    /// For how many more turns it is silent.
     silent: u8,
 }
 
@@ -19,7 +20,7 @@ impl Relay {
         Relay { draws, silent: 0 }
     }
 
-    /// Whether it is silent in this second. Once in a minute or so it falls silent for 3 to 12 seconds.
+    /// Whether it is silent in this turn. Once in 60 turns or so it falls silent for 3 to 12 of them.
     fn is_silent(&mut self) -> bool {
         if self.silent == 0 && self.draws.up_to(59) == 0 {
             self.silent = self.draws.up_to(9).saturating_add(3);
@@ -29,11 +30,11 @@ impl Relay {
         silent
     }
 
-    /// Takes up a frame. Of 20 times, it loses a frame once, hands over a copy of the oldest once, lets one of the oldest four overtake
-    /// those before it five times, and hands over the oldest otherwise. What the air holds back stays where it is.
-    fn take_up<E: Carried, B: Carried>(
+    /// Takes up a frame. Of 20 times, it loses one of the oldest four once, hands over a copy of the oldest once, lets one of the oldest
+    /// four overtake those before it five times, and hands over the oldest otherwise. What the air holds back stays where it is.
+    fn take_up<X: Kind, E: Carried, B: Carried>(
         &mut self,
-        link: &mut Flight,
+        link: &mut Flight<X>,
         forth: &mut Stream<E>,
         back: &mut Stream<B>,
     ) -> anyhow::Result<()> {
@@ -51,10 +52,10 @@ impl Relay {
         }
     }
 
-    /// A second of a relay: unless it is silent, it takes up as many as five frames that wait.
-    pub(crate) fn work<E: Carried, B: Carried>(
+    /// A turn of a relay: unless it is silent, it takes up as many as five frames that wait.
+    pub(crate) fn work<X: Kind, E: Carried, B: Carried>(
         &mut self,
-        link: &mut Flight,
+        link: &mut Flight<X>,
         forth: &mut Stream<E>,
         back: &mut Stream<B>,
     ) -> anyhow::Result<()> {

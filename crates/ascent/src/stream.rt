@@ -2,6 +2,7 @@
 use crate::carried::Carried;
 use crate::frames::Frames;
 use crate::late::Late;
+use board::Board;
 use protocol::Terms;
 use std::alloc::Global;
 
@@ -9,7 +10,7 @@ mod calls;
 
 /// The books of a stream.
 #[derive(Drop)]
-pub(crate) struct Stream<E> {
+pub(crate) struct Stream<E: Carried> {
     /// How many numbers its elements have.
     cycle: usize,
     /// What the sender is to accept, in this sequence.
@@ -18,6 +19,8 @@ pub(crate) struct Stream<E> {
     pub accepted: Vec<E>,
     /// What the receiver has passed on.
     pub passed: Vec<E>,
+    /// The receiver's board, on which all of that is posted.
+    pub board: Board<E>,
     /// How many elements the sender has released.
     pub released: usize,
     /// The acknowledgements that came late.
@@ -36,6 +39,7 @@ impl<E: Carried> Stream<E> {
             made: Vec::new(alloc),
             accepted: Vec::new(alloc),
             passed: Vec::new(alloc),
+            board: Board::new(),
             released: 0,
             late: Late::default(),
             waiting: Vec::new(alloc),

@@ -1,13 +1,18 @@
-//! A turn of one stream, from its sender through its relay to its receiver.
+//! A turn of one stream, from its sender through its relay to its receiver. As long as the balloon flies on, that is a second.
 use crate::Flight;
-use crate::carried::Carried;
+use crate::carried::{Carried, CarriedBy};
 use crate::draft::WINDOW;
 use crate::relay::Relay;
+use crate::sides::has_room;
 use crate::stream::Stream;
+use element::Kind;
 use std::alloc::AllocError;
 
 /// The sender accepts what waits to be accepted, until it refuses; answers how many elements it accepted.
-fn accept_all<E: Carried>(link: &mut Flight, stream: &mut Stream<E>) -> anyhow::Result<usize> {
+fn accept_all<X: Kind, E: CarriedBy<Flight<X>>>(
+    link: &mut Flight<X>,
+    stream: &mut Stream<E>,
+) -> anyhow::Result<usize> {
     let mut accepted = 0usize;
     for _ in 0..stream.queued() {
         if stream.accept(link)?.is_err() {
@@ -19,14 +24,14 @@ fn accept_all<E: Carried>(link: &mut Flight, stream: &mut Stream<E>) -> anyhow::
 }
 
 /// The sender sends each element that it holds, from a place on, as far as the air has room.
-fn send_from<E: Carried, B>(
-    link: &mut Flight,
+fn send_from<X: Kind, E: Carried, B: Carried>(
+    link: &mut Flight<X>,
     forth: &mut Stream<E>,
     back: &Stream<B>,
     first: usize,
 ) -> anyhow::Result<()> {
     for place in first..forth.held() {
-        if E::has_room(link) {
+        if has_room(link, E::SENDER) {
             forth.send(link, back, place)?;
         }
     }
@@ -35,24 +40,27 @@ fn send_from<E: Carried, B>(
 
 /// The sender speaks: where it holds nothing, it sends its acknowledgement alone; where it holds something from an earlier turn, the oldest
 /// of that once more; and then each element that it has just accepted.
-fn speak<E: Carried, B>(
-    link: &mut Flight,
+fn speak<X: Kind, E: Carried, B: Carried>(
+    link: &mut Flight<X>,
     forth: &mut Stream<E>,
     back: &Stream<B>,
     accepted: usize,
 ) -> anyhow::Result<()> {
     let held = forth.held();
-    if held == 0 && E::has_room(link) {
+    if held == 0 && has_room(link, E::SENDER) {
         forth.bare(link, back)?;
     }
-    if held > accepted && E::has_room(link) {
+    if held > accepted && has_room(link, E::SENDER) {
         forth.send(link, back, 0)?;
     }
     send_from(link, forth, back, held.saturating_sub(accepted))
 }
 
 /// The receiver passes on what it has in sequence.
-fn pass_all<E: Carried>(link: &mut Flight, stream: &mut Stream<E>) -> Result<(), AllocError> {
+fn pass_all<X: Kind, E: CarriedBy<Flight<X>>>(
+    link: &mut Flight<X>,
+    stream: &mut Stream<E>,
+) -> Result<(), AllocError> {
     for _ in 0..WINDOW {
         if stream.pass(link)?.is_none() {
             break;
@@ -62,8 +70,8 @@ fn pass_all<E: Carried>(link: &mut Flight, stream: &mut Stream<E>) -> Result<(),
 }
 
 /// The relay hands over every frame that waits, the oldest first.
-fn hand_over_all<E: Carried, B: Carried>(
-    link: &mut Flight,
+fn hand_over_all<X: Kind, E: Carried, B: Carried>(
+    link: &mut Flight<X>,
     forth: &mut Stream<E>,
     back: &mut Stream<B>,
 ) -> anyhow::Result<()> {
@@ -73,9 +81,9 @@ fn hand_over_all<E: Carried, B: Carried>(
     Ok(())
 }
 
-/// A second of a stream, through a relay that does as it likes.
-pub(crate) fn fly_stream<E: Carried, B: Carried>(
-    link: &mut Flight,
+/// A turn of a stream, through a relay that does as it likes.
+pub(crate) fn fly_stream<X: Kind, E: CarriedBy<Flight<X>>, B: Carried>(
+    link: &mut Flight<X>,
     relay: &mut Relay,
     forth: &mut Stream<E>,
     back: &mut Stream<B>,
@@ -89,8 +97,8 @@ pub(crate) fn fly_stream<E: Carried, B: Carried>(
 
 /// A turn of a stream that is to come to rest: what waits in the air is handed over; the sender sends all that it holds, or its
 /// acknowledgement alone where it holds nothing, and that is handed over, too.
-pub(crate) fn rest_stream<E: Carried, B: Carried>(
-    link: &mut Flight,
+pub(crate) fn rest_stream<X: Kind, E: CarriedBy<Flight<X>>, B: Carried>(
+    link: &mut Flight<X>,
     forth: &mut Stream<E>,
     back: &mut Stream<B>,
 ) -> anyhow::Result<()> {

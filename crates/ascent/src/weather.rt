@@ -1,5 +1,6 @@
-//! The air that a balloon meets on its way, by height: the standard atmosphere between levels that lie two kilometres apart.
-//! Heights are in decimetres.
+//! What a balloon meets on its way, by height: temperature and pressure as in the standard atmosphere, humidity and ozone as is usual, how
+//! fast it falls there, and how warm its ozone cell is. All but the two temperatures lies between values of levels that are two kilometres
+//! apart. Heights are in decimetres.
 
 /// How far the levels lie apart.
 const STEP: u32 = 20_000;
@@ -24,6 +25,11 @@ const FALLS: [u16; LEVELS] = [
     70, 77, 86, 95, 107, 121, 139, 162, 190, 222, 260, 305, 358, 419, 489, 571, 666,
 ];
 
+/// The partial pressure of ozone at each level, in hundredths of a millipascal: most of it lies around 22 km.
+const OZONE: [u16; LEVELS] = [
+    300, 280, 250, 220, 200, 250, 430, 700, 950, 1_170, 1_360, 1_450, 1_390, 1_210, 960, 700, 500,
+];
+
 /// The value at a height, on a straight line between those of the two levels around it.
 fn between_levels(values: &[u16; LEVELS], height: u32) -> i64 {
     let level = (height / STEP).min(15) as usize;
@@ -46,8 +52,18 @@ pub(crate) fn fall_at(height: u32) -> i64 {
     between_levels(&FALLS, height)
 }
 
-/// The temperature, in hundredths of a degree: 15 at the ground, 6.5 degrees less for each kilometre up to 11 km, the same up to 20 km, and
-/// then 1 degree more for each.
+/// The partial pressure of ozone, in hundredths of a millipascal.
+pub(crate) fn ozone_at(height: u32) -> i64 {
+    between_levels(&OZONE, height)
+}
+
+/// The temperature of the ozone cell, in hundredths of a degree: 25 at the ground, half a degree less for each kilometre.
+pub(crate) fn cell_temperature_at(height: u32) -> i64 {
+    2_500 - i64::from(height) * 50 / 10_000
+}
+
+/// The temperature of the air, in hundredths of a degree: 15 at the ground, 6.5 degrees less for each kilometre up to 11 km, the same up to
+/// 20 km, and then 1 degree more for each.
 pub(crate) fn temperature_at(height: u32) -> i64 {
     let below = i64::from(height.min(110_000));
     let above = i64::from(height.saturating_sub(200_000));

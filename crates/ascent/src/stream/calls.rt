@@ -1,16 +1,23 @@
 //! The calls of the link that are of a stream, each with what is written down of it.
-use crate::Flight;
-use crate::carried::Carried;
+use crate::carried::{Carried, CarriedBy};
 use crate::late::released_on_too_short;
 use crate::stream::Stream;
+use crate::{Flight, sides};
 use anyhow::Context;
+use element::Kind;
 use link::Hearing;
 use refusal::Refusal;
 use std::alloc::AllocError;
 
 impl<E: Carried> Stream<E> {
     /// The sender accepts the element that waits longest; where it refuses, that waits on.
-    pub(crate) fn accept(&mut self, link: &mut Flight) -> anyhow::Result<Result<E, Refusal>> {
+    pub(crate) fn accept<X: Kind>(
+        &mut self,
+        link: &mut Flight<X>,
+    ) -> anyhow::Result<Result<E, Refusal>>
+    where
+        E: CarriedBy<Flight<X>>,
+    {
         let next = self.made.get(self.accepted.len());
         let element = *next.context("no element waits to be accepted")?;
         if let Err(refusal) = E::accept(link, element) {
@@ -21,24 +28,28 @@ impl<E: Carried> Stream<E> {
     }
 
     /// The sender sends the element at a place of those that it holds. It has passed on all that it has of the other stream.
-    pub(crate) fn send<B>(
+    pub(crate) fn send<X: Kind, B: Carried>(
         &mut self,
-        link: &mut Flight,
+        link: &mut Flight<X>,
         back: &Stream<B>,
         place: usize,
     ) -> anyhow::Result<()> {
-        E::send(link, place)?;
+        sides::send(link, E::SENDER, place)?;
         self.enter(back)
     }
 
     /// The sender sends its acknowledgement alone. It has passed on all that it has of the other stream.
-    pub(crate) fn bare<B>(&mut self, link: &mut Flight, back: &Stream<B>) -> anyhow::Result<()> {
-        E::bare(link)?;
+    pub(crate) fn bare<X: Kind, B: Carried>(
+        &mut self,
+        link: &mut Flight<X>,
+        back: &Stream<B>,
+    ) -> anyhow::Result<()> {
+        sides::bare(link, E::SENDER)?;
         self.enter(back)
     }
 
     /// A frame has gone into the air.
-    fn enter<B>(&mut self, back: &Stream<B>) -> anyhow::Result<()> {
+    fn enter<B: Carried>(&mut self, back: &Stream<B>) -> anyhow::Result<()> {
         self.waiting.push(back.passed.len())?;
         self.frames.count_sent();
         Ok(())
@@ -52,21 +63,25 @@ impl<E: Carried> Stream<E> {
     }
 
     /// The relay loses the frame at a place.
-    pub(crate) fn lose(&mut self, link: &mut Flight, place: usize) -> anyhow::Result<()> {
-        E::lose(link, place)?;
+    pub(crate) fn lose<X: Kind>(
+        &mut self,
+        link: &mut Flight<X>,
+        place: usize,
+    ) -> anyhow::Result<()> {
+        sides::lose(link, E::SENDER, place)?;
         self.leave(place);
         self.frames.count_lost();
         Ok(())
     }
 
     /// The relay hands over the frame at a place.
-    pub(crate) fn deliver<B: Carried>(
+    pub(crate) fn deliver<X: Kind, B: Carried>(
         &mut self,
-        link: &mut Flight,
+        link: &mut Flight<X>,
         back: &mut Stream<B>,
         place: usize,
     ) -> anyhow::Result<Result<Hearing, Refusal>> {
-        let answer = E::deliver(link, place);
+        let answer = sides::deliver(link, E::SENDER, place);
         self.hear(back, place, answer)?;
         if answer.is_ok() {
             self.leave(place);
@@ -75,13 +90,13 @@ impl<E: Carried> Stream<E> {
     }
 
     /// The relay hands over a copy of the frame at a place.
-    pub(crate) fn repeat<B: Carried>(
+    pub(crate) fn repeat<X: Kind, B: Carried>(
         &mut self,
-        link: &mut Flight,
+        link: &mut Flight<X>,
         back: &mut Stream<B>,
         place: usize,
     ) -> anyhow::Result<Result<Hearing, Refusal>> {
-        let answer = E::repeat(link, place);
+        let answer = sides::repeat(link, E::SENDER, place);
         self.hear(back, place, answer)?;
         if answer.is_ok() {
             self.frames.count_repeated();
@@ -121,17 +136,22 @@ impl<E: Carried> Stream<E> {
     }
 
     /// The receiver passes on the next element, if it has come.
-    pub(crate) fn pass(&mut self, link: &mut Flight) -> Result<Option<E>, AllocError> {
+    pub(crate) fn pass<X: Kind>(&mut self, link: &mut Flight<X>) -> Result<Option<E>, AllocError>
+    where
+        E: CarriedBy<Flight<X>>,
+    {
         let Some(element) = E::pass(link) else {
             return Ok(None);
         };
         self.passed.push(element)?;
+        self.board.post(&element);
         Ok(Some(element))
     }
 
     /// The link was settled, and the receiver's list got these elements.
     pub(crate) fn settle(&mut self, list: &[E]) -> Result<(), AllocError> {
         self.passed.extend_from_slice(list)?;
+        self.board.post_all(list);
         self.released = self.accepted.len();
         self.waiting.clear();
         Ok(())
