@@ -45,13 +45,43 @@ struct cerduma_reading {
     uint16_t pressure;   /* tenths of a hectopascal, 0 to 11000 */
 };
 
-/* A frame of the hut-bound stream. One that is not laden has been read with number 0 and a reading of zeros; where it is written,
- * its number and its reading are not looked at. */
+/* A frame of a hut-bound stream of readings. One that is not laden has been read with number 0 and a reading of zeros; where it is
+ * written, its number and its reading are not looked at. The same goes for the element of every other frame below. */
 struct cerduma_reading_frame {
     bool laden;      /* whether it carries a reading and its number */
     uint16_t ack;    /* the acknowledgement */
     uint16_t number; /* the number of the reading */
     struct cerduma_reading reading;
+};
+
+/* What the balloon's ozone cell told. */
+struct cerduma_ozone {
+    uint32_t time;             /* tenths of a second from release */
+    uint16_t partial_pressure; /* hundredths of a millipascal, 0 to 5000 */
+    int16_t cell_temperature;  /* hundredths of a degree Celsius, -5000 to 5000 */
+};
+
+/* A frame of a hut-bound stream of ozone. */
+struct cerduma_ozone_frame {
+    bool laden;      /* whether it carries ozone and its number */
+    uint16_t ack;    /* the acknowledgement */
+    uint16_t number; /* the number of the ozone */
+    struct cerduma_ozone ozone;
+};
+
+/* How the air moves that the balloon drifts in. */
+struct cerduma_wind {
+    uint32_t time;      /* tenths of a second from release */
+    uint16_t direction; /* hundredths of a degree, 0 to 35999 */
+    uint16_t speed;     /* tenths of a metre a second, 0 to 2000 */
+};
+
+/* A frame of a hut-bound stream of winds. */
+struct cerduma_wind_frame {
+    bool laden;      /* whether it carries a wind and its number */
+    uint16_t ack;    /* the acknowledgement */
+    uint16_t number; /* the number of the wind */
+    struct cerduma_wind wind;
 };
 
 /* What the hut asks of the mast. */
@@ -65,8 +95,7 @@ struct cerduma_order {
     uint16_t elevation; /* point: hundredths of a degree, 0 to 9000 */
 };
 
-/* A frame of the mast-bound stream. One that is not laden has been read with number 0 and an order of zeros; where it is written,
- * its number and its order are not looked at. */
+/* A frame of a mast-bound stream of orders. */
 struct cerduma_order_frame {
     bool laden;      /* whether it carries an order and its number */
     uint16_t ack;    /* the acknowledgement */
@@ -85,7 +114,22 @@ struct cerduma_answer cerduma_read_reading(uint16_t ack_cycle, uint16_t number_c
 struct cerduma_answer cerduma_write_reading(uint16_t ack_cycle, uint16_t number_cycle, const struct cerduma_reading_frame *frame,
                                             uint8_t *area, size_t length);
 
-/* The same for orders, as the mast hears them from the hut; here ack_cycle is that of readings and number_cycle that of orders. */
+/* The same for ozone and for winds, which the mast sends too. A frame does not say of which kind its element is, and these two are
+ * equally wide: a frame with the one can be read as a frame with the other. */
+struct cerduma_answer cerduma_read_ozone(uint16_t ack_cycle, uint16_t number_cycle, const uint8_t *bytes, size_t length,
+                                         struct cerduma_ozone_frame *frame);
+
+struct cerduma_answer cerduma_write_ozone(uint16_t ack_cycle, uint16_t number_cycle, const struct cerduma_ozone_frame *frame,
+                                          uint8_t *area, size_t length);
+
+struct cerduma_answer cerduma_read_wind(uint16_t ack_cycle, uint16_t number_cycle, const uint8_t *bytes, size_t length,
+                                        struct cerduma_wind_frame *frame);
+
+struct cerduma_answer cerduma_write_wind(uint16_t ack_cycle, uint16_t number_cycle, const struct cerduma_wind_frame *frame,
+                                         uint8_t *area, size_t length);
+
+/* The same for orders, as the mast hears them from the hut; here ack_cycle is that of the hut-bound stream and number_cycle that of
+ * orders. */
 struct cerduma_answer cerduma_read_order(uint16_t ack_cycle, uint16_t number_cycle, const uint8_t *bytes, size_t length,
                                          struct cerduma_order_frame *frame);
 

@@ -1,10 +1,10 @@
 //! Reading and writing the same frames by the library and apart from it.
 
 use crate::draws::{Drawn, Draws};
-use crate::frames::{self, Case, Frames, Stream};
+use crate::frames::{self, Case, Frames, Kind};
 use crate::proved::Proved;
 use crate::reader;
-use crate::types::{Cycles, Frame, Order, Reading, Refused};
+use crate::types::{Cycles, Frame, Order, Ozone, Reading, Refused, Wind};
 use std::collections::BTreeMap;
 
 /// How many frames were compared, by what was answered, and how many answers differ.
@@ -45,12 +45,13 @@ fn read_one<E: Proved>(case: &Case, bytes: &[u8], tally: &mut Tally) {
     }
 }
 
-/// Writes one frame by both writers, into an area of some length, and reads back what the library wrote.
-fn write_one<E: Proved>(cycles: Cycles, frame: &Frame<E>, length: usize, tally: &mut Tally) {
+/// Draws a frame and writes it by both writers, into an area of some length, and reads back what the library wrote.
+fn write_one<E: Proved + Drawn>(draws: &mut Draws, tally: &mut Tally) {
+    let (cycles, frame, length) = to_write::<E>(draws);
     let untouched = [0xA5; 40];
     let mut area = untouched;
-    let by_library = E::write(cycles, frame, &mut area[..length]);
-    let apart = reader::write(cycles, frame);
+    let by_library = E::write(cycles, &frame, &mut area[..length]);
+    let apart = reader::write(cycles, &frame);
     tally.add(&apart);
     let mut wanted = untouched;
     if let Ok(bytes) = &apart
@@ -59,7 +60,7 @@ fn write_one<E: Proved>(cycles: Cycles, frame: &Frame<E>, length: usize, tally: 
         wanted[..bytes.len()].copy_from_slice(bytes);
     }
     let back = match by_library {
-        Ok(n) if n <= length => reader::read(cycles, &area[..n]) == Ok(*frame),
+        Ok(n) if n <= length => reader::read(cycles, &area[..n]) == Ok(frame),
         _ => true,
     };
     if by_library != apart.clone().map(|bytes| bytes.len()) || area != wanted || !back {
@@ -98,9 +99,11 @@ pub fn reading(frames: &Frames) -> Tally {
     let mut tally = Tally::default();
     for case in &frames.cases {
         let bytes = frames.bytes_of(case);
-        match case.stream {
-            Stream::HutBound => read_one::<Reading>(case, bytes, &mut tally),
-            Stream::MastBound => read_one::<Order>(case, bytes, &mut tally),
+        match case.kind {
+            Kind::Reading => read_one::<Reading>(case, bytes, &mut tally),
+            Kind::Ozone => read_one::<Ozone>(case, bytes, &mut tally),
+            Kind::Wind => read_one::<Wind>(case, bytes, &mut tally),
+            Kind::Order => read_one::<Order>(case, bytes, &mut tally),
         }
     }
     tally
@@ -111,12 +114,11 @@ pub fn writing(most: usize) -> Tally {
     let mut draws = Draws(most as u64);
     let mut tally = Tally::default();
     for i in 0..most {
-        if i % 2 == 0 {
-            let (cycles, frame, length) = to_write::<Reading>(&mut draws);
-            write_one(cycles, &frame, length, &mut tally);
-        } else {
-            let (cycles, frame, length) = to_write::<Order>(&mut draws);
-            write_one(cycles, &frame, length, &mut tally);
+        match i % 4 {
+            0 => write_one::<Reading>(&mut draws, &mut tally),
+            1 => write_one::<Ozone>(&mut draws, &mut tally),
+            2 => write_one::<Wind>(&mut draws, &mut tally),
+            _ => write_one::<Order>(&mut draws, &mut tally),
         }
     }
     tally

@@ -1,7 +1,7 @@
 //! What frames are drawn from: a generator with a fixed start, and elements within their ranges and outside them.
 
-use crate::frames::Stream;
-use crate::types::{Cycles, Element, Order, Reading};
+use crate::frames::Kind;
+use crate::types::{Cycles, Element, Order, Ozone, Reading, Wind};
 
 /// The generator splitmix64.
 pub struct Draws(pub u64);
@@ -58,7 +58,7 @@ impl Draws {
 
 /// An element that can be drawn.
 pub trait Drawn: Element {
-    const STREAM: Stream;
+    const KIND: Kind;
 
     /// One with all fields in range.
     fn drawn(draws: &mut Draws) -> Self;
@@ -68,7 +68,7 @@ pub trait Drawn: Element {
 }
 
 impl Drawn for Reading {
-    const STREAM: Stream = Stream::HutBound;
+    const KIND: Kind = Kind::Reading;
 
     fn drawn(draws: &mut Draws) -> Reading {
         Reading {
@@ -100,8 +100,57 @@ impl Drawn for Reading {
     }
 }
 
+impl Drawn for Ozone {
+    const KIND: Kind = Kind::Ozone;
+
+    fn drawn(draws: &mut Draws) -> Ozone {
+        Ozone {
+            time: draws.within(0, u32::MAX.into()) as u32,
+            partial_pressure: draws.within(0, 5_000) as u16,
+            cell_temperature: draws.within(-5_000, 5_000) as i16,
+        }
+    }
+
+    fn out_of_range(draws: &mut Draws) -> Ozone {
+        let mut ozone = Ozone::drawn(draws);
+        for _ in 0..draws.within(1, 2) {
+            match draws.next() % 2 {
+                0 => ozone.partial_pressure = draws.outside(0, 5_000, 0, u16::MAX.into()) as u16,
+                _ => {
+                    ozone.cell_temperature =
+                        draws.outside(-5_000, 5_000, i16::MIN.into(), i16::MAX.into()) as i16
+                }
+            }
+        }
+        ozone
+    }
+}
+
+impl Drawn for Wind {
+    const KIND: Kind = Kind::Wind;
+
+    fn drawn(draws: &mut Draws) -> Wind {
+        Wind {
+            time: draws.within(0, u32::MAX.into()) as u32,
+            direction: draws.within(0, 35_999) as u16,
+            speed: draws.within(0, 2_000) as u16,
+        }
+    }
+
+    fn out_of_range(draws: &mut Draws) -> Wind {
+        let mut wind = Wind::drawn(draws);
+        for _ in 0..draws.within(1, 2) {
+            match draws.next() % 2 {
+                0 => wind.direction = draws.outside(0, 35_999, 0, u16::MAX.into()) as u16,
+                _ => wind.speed = draws.outside(0, 2_000, 0, u16::MAX.into()) as u16,
+            }
+        }
+        wind
+    }
+}
+
 impl Drawn for Order {
-    const STREAM: Stream = Stream::MastBound;
+    const KIND: Kind = Kind::Order;
 
     fn drawn(draws: &mut Draws) -> Order {
         match draws.next() % 3 {

@@ -2,7 +2,7 @@
 
 use crate::draws::{Drawn, Draws};
 use crate::reader::{BARE, LONGEST, MARK, seal, write};
-use crate::types::{Cycles, Element, Frame, Order, Reading};
+use crate::types::{Cycles, Element, Frame, Order, Ozone, Reading, Wind};
 
 /// What was done to a frame.
 #[derive(Clone, Copy, PartialEq, Eq, Debug)]
@@ -16,11 +16,12 @@ pub enum Sort {
     PastCycle,
     WrongField,
     OutOfRange,
+    OtherKind,
     Random,
 }
 
 impl Sort {
-    pub const ALL: [Sort; 10] = [
+    pub const ALL: [Sort; 11] = [
         Sort::Bare,
         Sort::Laden,
         Sort::OneBit,
@@ -30,6 +31,7 @@ impl Sort {
         Sort::PastCycle,
         Sort::WrongField,
         Sort::OutOfRange,
+        Sort::OtherKind,
         Sort::Random,
     ];
 
@@ -45,16 +47,33 @@ impl Sort {
             Sort::PastCycle => "a number not below its cycle, the check mended",
             Sort::WrongField => "another tag, number or width, the check mended",
             Sort::OutOfRange => "an element out of range, the check mended",
+            Sort::OtherKind => "of any kind, as written, read as any kind",
             Sort::Random => "bytes drawn at random, some with the mark and the check",
         }
     }
 }
 
-/// Which stream a frame is read as.
+/// Which kind of element a frame is read with.
 #[derive(Clone, Copy, PartialEq, Eq, Debug)]
-pub enum Stream {
-    HutBound,
-    MastBound,
+pub enum Kind {
+    Reading,
+    Ozone,
+    Wind,
+    Order,
+}
+
+impl Kind {
+    pub const ALL: [Kind; 4] = [Kind::Reading, Kind::Ozone, Kind::Wind, Kind::Order];
+
+    /// What the kind is called.
+    pub fn words(self) -> &'static str {
+        match self {
+            Kind::Reading => "readings",
+            Kind::Ozone => "ozone",
+            Kind::Wind => "winds",
+            Kind::Order => "orders",
+        }
+    }
 }
 
 /// One frame: where it lies among the bytes, and how it is read.
@@ -62,7 +81,7 @@ pub enum Stream {
 pub struct Case {
     pub start: usize,
     pub length: usize,
-    pub stream: Stream,
+    pub kind: Kind,
     pub cycles: Cycles,
     pub sort: Sort,
 }
@@ -78,14 +97,14 @@ impl Frames {
         &self.bytes[case.start..case.start + case.length]
     }
 
-    /// The frames of one stream and one sort, laid out anew.
-    pub fn only(&self, stream: Stream, sort: Sort) -> Frames {
+    /// The frames of one kind and one sort, laid out anew.
+    pub fn only(&self, kind: Kind, sort: Sort) -> Frames {
         let mut only = Frames {
             bytes: Vec::new(),
             cases: Vec::new(),
         };
         let cases = self.cases.iter();
-        for case in cases.filter(|case| (case.stream, case.sort) == (stream, sort)) {
+        for case in cases.filter(|case| (case.kind, case.sort) == (kind, sort)) {
             only.cases.push(Case {
                 start: only.bytes.len(),
                 ..*case
@@ -148,13 +167,17 @@ struct Growing {
 
 impl Growing {
     fn push<E: Drawn>(&mut self, sort: Sort, cycles: Cycles, bytes: &[u8]) {
+        self.push_as(E::KIND, sort, cycles, bytes);
+    }
+
+    fn push_as(&mut self, kind: Kind, sort: Sort, cycles: Cycles, bytes: &[u8]) {
         if self.frames.cases.len() < self.most {
             let start = self.frames.bytes.len();
             self.frames.bytes.extend(bytes);
             self.frames.cases.push(Case {
                 start,
                 length: bytes.len(),
-                stream: E::STREAM,
+                kind,
                 cycles,
                 sort,
             });
@@ -207,6 +230,11 @@ impl Growing {
             Sort::PastCycle => self.past_cycle::<E>(cycles),
             Sort::WrongField => self.wrong_field::<E>(cycles),
             Sort::OutOfRange => self.out_of_range::<E>(cycles),
+            Sort::OtherKind => {
+                let bytes = self.written::<E>(cycles);
+                let kind = Kind::ALL[self.draws.next() as usize % Kind::ALL.len()];
+                self.push_as(kind, sort, cycles, &bytes);
+            }
             Sort::Random => self.random::<E>(cycles),
         }
     }
@@ -260,7 +288,7 @@ impl Growing {
         let element = E::out_of_range(&mut self.draws);
         let frame = frame(&mut self.draws, cycles, Some(element));
         let mut bytes = as_it_is(&frame);
-        if E::STREAM == Stream::MastBound && self.draws.one_in(4) {
+        if E::KIND == Kind::Order && self.draws.one_in(4) {
             bytes[12] = self.draws.next() as u8;
         }
         self.push::<E>(Sort::OutOfRange, cycles, &mended(bytes));
@@ -281,7 +309,7 @@ impl Growing {
     }
 }
 
-/// So many frames, of all sorts and for both streams in turn as they are drawn, half of them as they are written.
+/// So many frames, of all sorts and all kinds as they are drawn, half of them as they are written.
 pub fn drawn(most: usize) -> Frames {
     let frames = Frames {
         bytes: Vec::new(),
@@ -303,10 +331,13 @@ pub fn drawn(most: usize) -> Frames {
             710..760 => Sort::PastCycle,
             760..830 => Sort::WrongField,
             830..920 => Sort::OutOfRange,
+            920..940 => Sort::OtherKind,
             _ => Sort::Random,
         };
-        match growing.draws.next() % 2 {
+        match growing.draws.next() % 4 {
             0 => growing.grow::<Reading>(sort),
+            1 => growing.grow::<Ozone>(sort),
+            2 => growing.grow::<Wind>(sort),
             _ => growing.grow::<Order>(sort),
         }
     }

@@ -11,7 +11,7 @@ mod tests;
 mod times;
 mod types;
 
-use frames::{Frames, Sort, Stream};
+use frames::{Frames, Kind, Sort};
 use std::process::ExitCode;
 
 /// How many frames are read, and how many are written.
@@ -24,15 +24,11 @@ fn print_sorts(frames: &Frames) {
         let count = frames.cases.iter().filter(|case| case.sort == sort).count();
         println!("{count:>9}  {}", sort.words());
     }
-    let orders = frames
-        .cases
-        .iter()
-        .filter(|case| case.stream == Stream::MastBound)
-        .count();
-    println!(
-        "{:>9}  in all, {orders} of them as orders and the rest as readings",
-        frames.cases.len()
-    );
+    for kind in Kind::ALL {
+        let count = frames.cases.iter().filter(|case| case.kind == kind).count();
+        println!("{count:>9}  read as {}", kind.words());
+    }
+    println!("{:>9}  in all", frames.cases.len());
 }
 
 fn main() -> ExitCode {
@@ -49,13 +45,11 @@ fn main() -> ExitCode {
         times::RUNS
     );
     let mut same = times::print(&frames, "all");
-    for (stream, sort, what) in [
-        (Stream::HutBound, Sort::Laden, "readings, laden, as written"),
-        (Stream::HutBound, Sort::Bare, "readings, bare, as written"),
-        (Stream::MastBound, Sort::Laden, "orders, laden, as written"),
-        (Stream::MastBound, Sort::Bare, "orders, bare, as written"),
-    ] {
-        same &= times::print(&frames.only(stream, sort), what);
+    for kind in Kind::ALL {
+        for sort in [Sort::Laden, Sort::Bare] {
+            let what = format!("{}, {}", kind.words(), sort.words());
+            same &= times::print(&frames.only(kind, sort), &what);
+        }
     }
     if read.differ + written.differ > 0 || !same {
         return ExitCode::FAILURE;

@@ -1,18 +1,20 @@
 //! The library's functions, as safe Rust. Nothing compares the declarations with `crates/cerduma/src`: they are kept the same by hand.
 
-use crate::types::{Cycles, Element, Frame, Order, Reading, Refused};
+use crate::types::{Cycles, Element, Frame, Order, Ozone, Reading, Refused, Wind};
 
+/// What a call answers.
 #[repr(C)]
-struct Answer {
+pub struct Answer {
     refusal: usize,
     place: usize,
     length: usize,
 }
 
-/// A frame in plain fields: the library's frame of readings, whose element is a reading, and that of orders, with the fields of one.
+/// A frame in plain fields, with those of its element. The library has a struct of its own for the frames of each kind; they are all
+/// laid out so.
 #[repr(C)]
 #[derive(Default)]
-struct PlainFrame<T> {
+pub struct PlainFrame<T> {
     laden: bool,
     ack: u16,
     number: u16,
@@ -43,7 +45,10 @@ impl<T: Default> PlainFrame<T> {
 
     /// The frame that the fields tell.
     #[inline]
-    fn frame<E: From<T>>(self) -> Frame<E> {
+    fn frame<E>(self) -> Frame<E>
+    where
+        T: Into<E>,
+    {
         let ack = self.ack;
         match self.laden {
             true => Frame::Laden {
@@ -66,6 +71,12 @@ pub struct OrderFields {
     pub elevation: u16,
 }
 
+/// A function that reads a frame: by the two cycles, from some bytes and their length, into a frame.
+type Read<T> = unsafe extern "C" fn(u16, u16, *const u8, usize, *mut PlainFrame<T>) -> Answer;
+
+/// A function that writes one: by the two cycles, a frame into an area and its length.
+type Write<T> = unsafe extern "C" fn(u16, u16, *const PlainFrame<T>, *mut u8, usize) -> Answer;
+
 unsafe extern "C" {
     fn cerduma_read_reading(
         ack_cycle: u16,
@@ -78,6 +89,34 @@ unsafe extern "C" {
         ack_cycle: u16,
         number_cycle: u16,
         frame: *const PlainFrame<Reading>,
+        area: *mut u8,
+        length: usize,
+    ) -> Answer;
+    fn cerduma_read_ozone(
+        ack_cycle: u16,
+        number_cycle: u16,
+        bytes: *const u8,
+        length: usize,
+        frame: *mut PlainFrame<Ozone>,
+    ) -> Answer;
+    fn cerduma_write_ozone(
+        ack_cycle: u16,
+        number_cycle: u16,
+        frame: *const PlainFrame<Ozone>,
+        area: *mut u8,
+        length: usize,
+    ) -> Answer;
+    fn cerduma_read_wind(
+        ack_cycle: u16,
+        number_cycle: u16,
+        bytes: *const u8,
+        length: usize,
+        frame: *mut PlainFrame<Wind>,
+    ) -> Answer;
+    fn cerduma_write_wind(
+        ack_cycle: u16,
+        number_cycle: u16,
+        frame: *const PlainFrame<Wind>,
         area: *mut u8,
         length: usize,
     ) -> Answer;
@@ -108,49 +147,6 @@ impl Answer {
                 place: self.place,
             }),
         }
-    }
-}
-
-/// An element that the library reads and writes.
-pub trait Proved: Element {
-    /// The frame in some bytes, or why they are none.
-    fn read(cycles: Cycles, bytes: &[u8]) -> Result<Frame<Self>, Refused>;
-
-    /// Writes a frame into the front of an area, if it has room for it, and answers how many bytes the frame has.
-    fn write(cycles: Cycles, frame: &Frame<Self>, area: &mut [u8]) -> Result<usize, Refused>;
-}
-
-impl Proved for Reading {
-    #[inline]
-    fn read(cycles: Cycles, bytes: &[u8]) -> Result<Frame<Reading>, Refused> {
-        let mut frame = PlainFrame::default();
-        // SAFETY: the declaration fits the function, the pointer and the length are those of one slice, and `frame` is its own.
-        let answer = unsafe {
-            cerduma_read_reading(
-                cycles.ack,
-                cycles.number,
-                bytes.as_ptr(),
-                bytes.len(),
-                &mut frame,
-            )
-        };
-        answer.length()?;
-        Ok(frame.frame())
-    }
-
-    fn write(cycles: Cycles, frame: &Frame<Reading>, area: &mut [u8]) -> Result<usize, Refused> {
-        let frame = PlainFrame::of(*frame);
-        // SAFETY: the declaration fits the function, and the pointer and the length are those of one slice, which is lent for writing.
-        unsafe {
-            cerduma_write_reading(
-                cycles.ack,
-                cycles.number,
-                &frame,
-                area.as_mut_ptr(),
-                area.len(),
-            )
-        }
-        .length()
     }
 }
 
@@ -194,23 +190,80 @@ impl From<OrderFields> for Order {
     }
 }
 
-/// Writes a frame with an order in plain fields.
-fn write_plain(
-    cycles: Cycles,
-    frame: &PlainFrame<OrderFields>,
-    area: &mut [u8],
-) -> Result<usize, Refused> {
-    // SAFETY: as above.
-    unsafe {
-        cerduma_write_order(
-            cycles.ack,
-            cycles.number,
-            frame,
-            area.as_mut_ptr(),
-            area.len(),
-        )
+/// An element that the library reads and writes.
+pub trait Proved: Element {
+    /// Its fields, as they cross.
+    type Fields: Default + From<Self> + Into<Self>;
+
+    /// The library's functions, whose declarations fit them.
+    const READ: Read<Self::Fields>;
+    const WRITE: Write<Self::Fields>;
+
+    /// The frame in some bytes, or why they are none.
+    #[inline]
+    fn read(cycles: Cycles, bytes: &[u8]) -> Result<Frame<Self>, Refused> {
+        let mut frame = PlainFrame::default();
+        // SAFETY: the declaration fits the function, the pointer and the length are those of one slice, and `frame` is its own.
+        let answer = unsafe {
+            Self::READ(
+                cycles.ack,
+                cycles.number,
+                bytes.as_ptr(),
+                bytes.len(),
+                &mut frame,
+            )
+        };
+        answer.length()?;
+        Ok(frame.frame())
     }
-    .length()
+
+    /// Writes a frame in plain fields into the front of an area, if it has room for it, and answers how many bytes the frame has.
+    fn write_plain(
+        cycles: Cycles,
+        frame: &PlainFrame<Self::Fields>,
+        area: &mut [u8],
+    ) -> Result<usize, Refused> {
+        // SAFETY: the declaration fits the function, and the pointer and the length are those of one slice, which is lent for writing.
+        let answer = unsafe {
+            Self::WRITE(
+                cycles.ack,
+                cycles.number,
+                frame,
+                area.as_mut_ptr(),
+                area.len(),
+            )
+        };
+        answer.length()
+    }
+
+    /// Writes a frame so.
+    fn write(cycles: Cycles, frame: &Frame<Self>, area: &mut [u8]) -> Result<usize, Refused> {
+        Self::write_plain(cycles, &PlainFrame::of(*frame), area)
+    }
+}
+
+impl Proved for Reading {
+    type Fields = Reading;
+    const READ: Read<Reading> = cerduma_read_reading;
+    const WRITE: Write<Reading> = cerduma_write_reading;
+}
+
+impl Proved for Ozone {
+    type Fields = Ozone;
+    const READ: Read<Ozone> = cerduma_read_ozone;
+    const WRITE: Write<Ozone> = cerduma_write_ozone;
+}
+
+impl Proved for Wind {
+    type Fields = Wind;
+    const READ: Read<Wind> = cerduma_read_wind;
+    const WRITE: Write<Wind> = cerduma_write_wind;
+}
+
+impl Proved for Order {
+    type Fields = OrderFields;
+    const READ: Read<OrderFields> = cerduma_read_order;
+    const WRITE: Write<OrderFields> = cerduma_write_order;
 }
 
 /// Writes a laden frame with an order by its fields, of which the tag may be none.
@@ -228,28 +281,5 @@ pub fn write_fields(
         number,
         element: order,
     };
-    write_plain(cycles, &frame, area)
-}
-
-impl Proved for Order {
-    #[inline]
-    fn read(cycles: Cycles, bytes: &[u8]) -> Result<Frame<Order>, Refused> {
-        let mut frame = PlainFrame::default();
-        // SAFETY: as above.
-        let answer = unsafe {
-            cerduma_read_order(
-                cycles.ack,
-                cycles.number,
-                bytes.as_ptr(),
-                bytes.len(),
-                &mut frame,
-            )
-        };
-        answer.length()?;
-        Ok(frame.frame())
-    }
-
-    fn write(cycles: Cycles, frame: &Frame<Order>, area: &mut [u8]) -> Result<usize, Refused> {
-        write_plain(cycles, &PlainFrame::of(*frame), area)
-    }
+    Order::write_plain(cycles, &frame, area)
 }

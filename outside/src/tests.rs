@@ -2,7 +2,7 @@
 
 use crate::proved::{OrderFields, Proved, write_fields};
 use crate::reader;
-use crate::types::{Cycles, Element, Frame, Order, Reading, Refused};
+use crate::types::{Cycles, Frame, Order, Ozone, Reading, Refused, Wind};
 
 const CYCLES: Cycles = Cycles {
     ack: 11,
@@ -53,6 +53,19 @@ fn example_of_rfc_1071() {
     assert_eq!(reader::check(&[0xFF, 0xFF]), 0);
 }
 
+/// An element of docs/ELEMENTS.md has the bytes that stand there, and a frame with it is read and written alike.
+fn is_example<E: Proved>(element: E, bytes: &[u8]) {
+    let mut written = Vec::new();
+    assert!(element.encode(&mut written));
+    assert_eq!(written, bytes);
+    let frame = Frame::Laden {
+        ack: 3,
+        number: 5,
+        element,
+    };
+    is_frame(&reader::write(CYCLES, &frame).unwrap(), frame);
+}
+
 #[test]
 fn reading_of_the_example() {
     let reading = Reading {
@@ -62,20 +75,32 @@ fn reading_of_the_example() {
         humidity: 783,
         pressure: 8_431,
     };
-    let mut bytes = Vec::new();
-    assert!(reading.encode(&mut bytes));
-    assert_eq!(
-        bytes,
-        [
-            0, 0, 0x10, 0x74, 0, 0, 0x3B, 0x82, 0xFE, 0x57, 0x03, 0x0F, 0x20, 0xEF
-        ]
+    is_example(
+        reading,
+        &[
+            0, 0, 0x10, 0x74, 0, 0, 0x3B, 0x82, 0xFE, 0x57, 0x03, 0x0F, 0x20, 0xEF,
+        ],
     );
-    let frame = Frame::Laden {
-        ack: 3,
-        number: 5,
-        element: reading,
+}
+
+#[test]
+fn ozone_of_the_example() {
+    let ozone = Ozone {
+        time: 4_212,
+        partial_pressure: 1_234,
+        cell_temperature: -425,
     };
-    is_frame(&reader::write(CYCLES, &frame).unwrap(), frame);
+    is_example(ozone, &[0, 0, 0x10, 0x74, 0x04, 0xD2, 0xFE, 0x57]);
+}
+
+#[test]
+fn wind_of_the_example() {
+    let wind = Wind {
+        time: 4_212,
+        direction: 27_150,
+        speed: 83,
+    };
+    is_example(wind, &[0, 0, 0x10, 0x74, 0x6A, 0x0E, 0x00, 0x53]);
 }
 
 #[test]

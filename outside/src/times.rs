@@ -1,9 +1,9 @@
 //! How long both readers take, in processor time, so that other work of the machine counts as little as may be. For Linux.
 
-use crate::frames::{Case, Frames, Stream};
+use crate::frames::{Case, Frames, Kind};
 use crate::proved::Proved;
 use crate::reader;
-use crate::types::{Cycles, Frame, Order, Reading, Refused};
+use crate::types::{Cycles, Frame, Order, Ozone, Reading, Refused, Wind};
 use std::time::Duration;
 
 /// How often each reader is timed.
@@ -24,6 +24,20 @@ impl Digest for Reading {
             .wrapping_add(self.temperature as u64)
             .wrapping_add(u64::from(self.humidity) << 16)
             .wrapping_add(u64::from(self.pressure))
+    }
+}
+
+impl Digest for Ozone {
+    fn digest(&self) -> u64 {
+        u64::from(self.time)
+            .wrapping_add(u64::from(self.partial_pressure) << 32)
+            .wrapping_add(self.cell_temperature as u64)
+    }
+}
+
+impl Digest for Wind {
+    fn digest(&self) -> u64 {
+        u64::from(self.time) + (u64::from(self.direction) << 32) + (u64::from(self.speed) << 48)
     }
 }
 
@@ -75,6 +89,29 @@ fn now() -> Duration {
     Duration::new(time.seconds as u64, time.nanoseconds as u32)
 }
 
+/// One of the two readers.
+trait Reader {
+    fn read<E: Proved>(cycles: Cycles, bytes: &[u8]) -> Result<Frame<E>, Refused>;
+}
+
+struct Library;
+
+impl Reader for Library {
+    #[inline]
+    fn read<E: Proved>(cycles: Cycles, bytes: &[u8]) -> Result<Frame<E>, Refused> {
+        E::read(cycles, bytes)
+    }
+}
+
+struct Other;
+
+impl Reader for Other {
+    #[inline]
+    fn read<E: Proved>(cycles: Cycles, bytes: &[u8]) -> Result<Frame<E>, Refused> {
+        reader::read(cycles, bytes)
+    }
+}
+
 /// How long one reader took in a run, and the sum of what it answered.
 #[derive(Default)]
 struct Clock {
@@ -84,17 +121,15 @@ struct Clock {
 
 impl Clock {
     /// Reads these frames.
-    fn read<R, O>(&mut self, frames: &Frames, cases: &[Case], reading: R, order: O)
-    where
-        R: Fn(Cycles, &[u8]) -> Result<Frame<Reading>, Refused>,
-        O: Fn(Cycles, &[u8]) -> Result<Frame<Order>, Refused>,
-    {
+    fn read<R: Reader>(&mut self, frames: &Frames, cases: &[Case]) {
         let start = now();
         for case in cases {
-            let bytes = frames.bytes_of(case);
-            let digest = match case.stream {
-                Stream::HutBound => reading(case.cycles, bytes).digest(),
-                Stream::MastBound => order(case.cycles, bytes).digest(),
+            let (cycles, bytes) = (case.cycles, frames.bytes_of(case));
+            let digest = match case.kind {
+                Kind::Reading => R::read::<Reading>(cycles, bytes).digest(),
+                Kind::Ozone => R::read::<Ozone>(cycles, bytes).digest(),
+                Kind::Wind => R::read::<Wind>(cycles, bytes).digest(),
+                Kind::Order => R::read::<Order>(cycles, bytes).digest(),
             };
             self.sum = self.sum.rotate_left(1).wrapping_add(digest);
         }
@@ -107,11 +142,11 @@ fn run(frames: &Frames) -> (Clock, Clock) {
     let (mut library, mut other) = (Clock::default(), Clock::default());
     for (turn, cases) in frames.cases.chunks(TURN).enumerate() {
         if turn % 2 == 0 {
-            library.read(frames, cases, Reading::read, Order::read);
+            library.read::<Library>(frames, cases);
         }
-        other.read(frames, cases, reader::read, reader::read);
+        other.read::<Other>(frames, cases);
         if turn % 2 == 1 {
-            library.read(frames, cases, Reading::read, Order::read);
+            library.read::<Library>(frames, cases);
         }
     }
     (library, other)

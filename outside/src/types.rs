@@ -32,6 +32,24 @@ pub struct Reading {
     pub pressure: u16,
 }
 
+/// What the ozone cell told, in the units of docs/ELEMENTS.md. It crosses to the library as a reading does.
+#[repr(C)]
+#[derive(Clone, Copy, PartialEq, Eq, Default, Debug)]
+pub struct Ozone {
+    pub time: u32,
+    pub partial_pressure: u16,
+    pub cell_temperature: i16,
+}
+
+/// A wind, in the units of docs/ELEMENTS.md. It crosses to the library as a reading does.
+#[repr(C)]
+#[derive(Clone, Copy, PartialEq, Eq, Default, Debug)]
+pub struct Wind {
+    pub time: u32,
+    pub direction: u16,
+    pub speed: u16,
+}
+
 /// An order, in the units of docs/ELEMENTS.md.
 #[derive(Clone, Copy, PartialEq, Eq, Debug)]
 pub enum Order {
@@ -100,6 +118,87 @@ impl Element for Reading {
         out.extend(self.temperature.to_be_bytes());
         out.extend(self.humidity.to_be_bytes());
         out.extend(self.pressure.to_be_bytes());
+        self.fault().is_none()
+    }
+}
+
+/// The time of eight bytes, and the two numbers behind it, which share a word with it.
+#[inline(always)]
+fn time_and_two(bytes: &[u8]) -> Result<(u32, u16, u16), usize> {
+    let word = u64::from_be_bytes(bytes.try_into().map_err(|_| 0_usize)?);
+    Ok(((word >> 32) as u32, (word >> 16) as u16, word as u16))
+}
+
+impl Ozone {
+    /// The offset of the first field out of range.
+    #[inline]
+    pub fn fault(&self) -> Option<usize> {
+        if self.partial_pressure > 5_000 {
+            Some(4)
+        } else if self.cell_temperature.unsigned_abs() > 5_000 {
+            Some(6)
+        } else {
+            None
+        }
+    }
+}
+
+impl Element for Ozone {
+    const WIDTH: usize = 8;
+    const SENDER: u8 = 1;
+
+    #[inline(always)]
+    fn decode(bytes: &[u8]) -> Result<Ozone, usize> {
+        let (time, partial_pressure, cell_temperature) = time_and_two(bytes)?;
+        let ozone = Ozone {
+            time,
+            partial_pressure,
+            cell_temperature: cell_temperature as i16,
+        };
+        ozone.fault().map_or(Ok(ozone), Err)
+    }
+
+    fn encode(&self, out: &mut Vec<u8>) -> bool {
+        out.extend(self.time.to_be_bytes());
+        out.extend(self.partial_pressure.to_be_bytes());
+        out.extend(self.cell_temperature.to_be_bytes());
+        self.fault().is_none()
+    }
+}
+
+impl Wind {
+    /// The offset of the first field out of range.
+    #[inline]
+    pub fn fault(&self) -> Option<usize> {
+        if self.direction >= 36_000 {
+            Some(4)
+        } else if self.speed > 2_000 {
+            Some(6)
+        } else {
+            None
+        }
+    }
+}
+
+impl Element for Wind {
+    const WIDTH: usize = 8;
+    const SENDER: u8 = 1;
+
+    #[inline(always)]
+    fn decode(bytes: &[u8]) -> Result<Wind, usize> {
+        let (time, direction, speed) = time_and_two(bytes)?;
+        let wind = Wind {
+            time,
+            direction,
+            speed,
+        };
+        wind.fault().map_or(Ok(wind), Err)
+    }
+
+    fn encode(&self, out: &mut Vec<u8>) -> bool {
+        out.extend(self.time.to_be_bytes());
+        out.extend(self.direction.to_be_bytes());
+        out.extend(self.speed.to_be_bytes());
         self.fault().is_none()
     }
 }

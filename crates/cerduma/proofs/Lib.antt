@@ -1,1 +1,1 @@
-mod Ports
+pub mod Ports

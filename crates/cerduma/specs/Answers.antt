@@ -1,6 +1,7 @@
 -- What a call from outside answers, and what it leaves in the memory that it was lent.
 use Rattle.std.specs.Prelude.{ℕ, cond, List, length, Some, None, Ok, Err, Option, Result, nat_lt}
 use Rattle.element.specs.Kinds.{Coding}
+use Rattle.octets.specs.Areas.{front}
 use Rattle.refusal.specs.Refusals.{number_of, place_of}
 use Rattle.refusal.specs.declared.Refusal.{Refusal}
 use Rattle.frame.specs.Reads.{hear_from}
@@ -31,6 +32,10 @@ done n = record { refusal = 0; place = 0; length = n }
 abbrev pub answer_of : Result ℕ Refusal → Answer
 answer_of (Ok n) = done n
 answer_of (Err r) = refused_by r
+
+-- an area after some bytes were written into its front, if it has room for them; one that has none stays as it was
+abbrev pub filled : List ℕ → List ℕ → List ℕ
+filled bs area = cond (nat_lt (length area) (length bs)) area (front bs area)
 
 -- an answer and what an area holds, as writing leaves them if the area has room for the frame; an area that has none stays as it was
 abbrev pub if_room : Result ℕ Refusal × List ℕ → List ℕ → Answer × List ℕ

@@ -2,22 +2,36 @@
 //!
 //! `outside/cerduma.h` declares the functions and the structs, and `docs/OUTSIDE.md` says what a caller owes. It keeps nothing between
 //! calls, and must know nothing of airs, drafts and links.
+//!
+//! What hears a frame leaves the caller's struct as it was where it refuses. What writes a frame does so in the front of the caller's
+//! area, and answers how many bytes the frame has; where the area has fewer, or the call refuses, the area stays as it was.
 #![tactic(auto)]
 
 ghost use Rattle.std.specs.Prelude.{◌≡◌};
-ghost use Rattle.cerduma.specs.Answers.{done, format_of, refused_by, written};
+ghost use Rattle.cerduma.specs.Answers.{done, format_of, refused_by};
 ghost use Rattle.cerduma.specs.Orders.{order_read, order_written};
+ghost use Rattle.cerduma.specs.Ozones.{ozone_read, ozone_written};
 ghost use Rattle.cerduma.specs.Readings.{reading_read, reading_written};
+ghost use Rattle.cerduma.specs.Winds.{wind_read, wind_written};
 
-use element::Kind;
-use frame::{Cycles, Format, Frame, LONGEST, Side};
+use element::order::Order;
+use element::ozone::Ozone;
+use element::reading::Reading;
+use element::wind::Wind;
+use frame::{Cycles, Format, Side};
+use plain::{read, write};
 use refusal::Refusal;
 
 mod order;
+mod ozone;
+mod plain;
 mod reading;
+mod wind;
 
 pub use order::{OrderFields, OrderFrame};
+pub use ozone::{OzoneFields, OzoneFrame};
 pub use reading::{ReadingFields, ReadingFrame};
+pub use wind::{WindFields, WindFrame};
 
 /// What a call answers: three numbers of one type, so that no bytes lie unused between them.
 #[repr(C)]
@@ -64,23 +78,7 @@ fn format(sender: Side, ack_cycle: u16, number_cycle: u16) -> Format
     Format { sender, cycles }
 }
 
-/// Writes a frame into the front of an area that has room for it, and leaves any other area as it was.
-fn write<K: Kind>(format: Format, frame: &Frame<K>, area: &mut [u8]) -> Answer
-    ensures { (result, area.new) ≡ written K.coding format frame.now area.old }
-{
-    let mut bytes = [0; LONGEST];
-    match frame::write(format, frame, &mut bytes) {
-        Ok(length) => {
-            if length <= area.len() {
-                area[..length].copy_from_slice(&bytes[..length]);
-            }
-            done(length)
-        }
-        Err(refusal) => refused(refusal),
-    }
-}
-
-/// Hears a frame of the hut-bound stream, which the mast sends and which carries readings. A refusal leaves `frame` as it was.
+/// Hears a frame of a hut-bound stream of readings, which the mast sends.
 #[unsafe(no_mangle)]
 pub extern "C" fn cerduma_read_reading(
     ack_cycle: u16,
@@ -90,17 +88,10 @@ pub extern "C" fn cerduma_read_reading(
 ) -> Answer
     ensures { (result, frame.new) ≡ reading_read ack_cycle number_cycle bytes.now frame.old }
 {
-    match frame::hear(format(Side::Mast, ack_cycle, number_cycle), bytes) {
-        Ok(heard) => {
-            *frame = ReadingFrame::of(heard);
-            done(bytes.len())
-        }
-        Err(refusal) => refused(refusal),
-    }
+    read::<Reading>(format(Side::Mast, ack_cycle, number_cycle), bytes, frame)
 }
 
-/// Writes a frame of the hut-bound stream into the front of an area, and answers how many bytes it has. Where the area has fewer,
-/// or the call refuses, the area stays as it was.
+/// Writes such a frame.
 #[unsafe(no_mangle)]
 pub extern "C" fn cerduma_write_reading(
     ack_cycle: u16,
@@ -110,14 +101,10 @@ pub extern "C" fn cerduma_write_reading(
 ) -> Answer
     ensures { (result, area.new) ≡ reading_written ack_cycle number_cycle frame.now area.old }
 {
-    write(
-        format(Side::Mast, ack_cycle, number_cycle),
-        &frame.to_frame(),
-        area,
-    )
+    write::<Reading>(format(Side::Mast, ack_cycle, number_cycle), frame, area)
 }
 
-/// Hears a frame of the mast-bound stream, which the hut sends and which carries orders. A refusal leaves `frame` as it was.
+/// Hears a frame of a mast-bound stream of orders, which the hut sends.
 #[unsafe(no_mangle)]
 pub extern "C" fn cerduma_read_order(
     ack_cycle: u16,
@@ -127,17 +114,10 @@ pub extern "C" fn cerduma_read_order(
 ) -> Answer
     ensures { (result, frame.new) ≡ order_read ack_cycle number_cycle bytes.now frame.old }
 {
-    match frame::hear(format(Side::Hut, ack_cycle, number_cycle), bytes) {
-        Ok(heard) => {
-            *frame = OrderFrame::of(heard);
-            done(bytes.len())
-        }
-        Err(refusal) => refused(refusal),
-    }
+    read::<Order>(format(Side::Hut, ack_cycle, number_cycle), bytes, frame)
 }
 
-/// Writes a frame of the mast-bound stream into the front of an area, and answers how many bytes it has. Where the area has fewer,
-/// or the call refuses, the area stays as it was.
+/// Writes such a frame.
 #[unsafe(no_mangle)]
 pub extern "C" fn cerduma_write_order(
     ack_cycle: u16,
@@ -147,9 +127,57 @@ pub extern "C" fn cerduma_write_order(
 ) -> Answer
     ensures { (result, area.new) ≡ order_written ack_cycle number_cycle frame.now area.old }
 {
-    write(
-        format(Side::Hut, ack_cycle, number_cycle),
-        &frame.to_frame(),
-        area,
-    )
+    write::<Order>(format(Side::Hut, ack_cycle, number_cycle), frame, area)
+}
+
+/// Hears a frame of a hut-bound stream of ozone, which the mast sends.
+#[unsafe(no_mangle)]
+pub extern "C" fn cerduma_read_ozone(
+    ack_cycle: u16,
+    number_cycle: u16,
+    bytes: &[u8],
+    frame: &mut OzoneFrame,
+) -> Answer
+    ensures { (result, frame.new) ≡ ozone_read ack_cycle number_cycle bytes.now frame.old }
+{
+    read::<Ozone>(format(Side::Mast, ack_cycle, number_cycle), bytes, frame)
+}
+
+/// Writes such a frame.
+#[unsafe(no_mangle)]
+pub extern "C" fn cerduma_write_ozone(
+    ack_cycle: u16,
+    number_cycle: u16,
+    frame: &OzoneFrame,
+    area: &mut [u8],
+) -> Answer
+    ensures { (result, area.new) ≡ ozone_written ack_cycle number_cycle frame.now area.old }
+{
+    write::<Ozone>(format(Side::Mast, ack_cycle, number_cycle), frame, area)
+}
+
+/// Hears a frame of a hut-bound stream of winds, which the mast sends.
+#[unsafe(no_mangle)]
+pub extern "C" fn cerduma_read_wind(
+    ack_cycle: u16,
+    number_cycle: u16,
+    bytes: &[u8],
+    frame: &mut WindFrame,
+) -> Answer
+    ensures { (result, frame.new) ≡ wind_read ack_cycle number_cycle bytes.now frame.old }
+{
+    read::<Wind>(format(Side::Mast, ack_cycle, number_cycle), bytes, frame)
+}
+
+/// Writes such a frame.
+#[unsafe(no_mangle)]
+pub extern "C" fn cerduma_write_wind(
+    ack_cycle: u16,
+    number_cycle: u16,
+    frame: &WindFrame,
+    area: &mut [u8],
+) -> Answer
+    ensures { (result, area.new) ≡ wind_written ack_cycle number_cycle frame.now area.old }
+{
+    write::<Wind>(format(Side::Mast, ack_cycle, number_cycle), frame, area)
 }

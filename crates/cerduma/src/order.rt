@@ -1,9 +1,9 @@
-//! Frames of the mast-bound stream, in plain fields.
+//! Orders in plain fields.
 ghost use Rattle.std.specs.Prelude.{◌≡◌};
-ghost use Rattle.cerduma.specs.Orders.{fields_of, order_of, plain_of, frame_of};
+ghost use Rattle.cerduma.specs.Orders.{order_form, packed};
 
+use crate::plain::{Plain, PlainFrame};
 use element::order::Order;
-use frame::Frame;
 
 /// The fields of an order. Those that its tag does not name are 0 where it was read, and not looked at where it is written.
 #[repr(C)]
@@ -19,8 +19,7 @@ pub struct OrderFields {
     pub elevation: u16,
 }
 
-/// A frame that carries an order, or none. A bare one that was read has 0 for its number and in all fields of its order, and of
-/// one that is written these are not looked at.
+/// A frame that carries an order, or none.
 #[repr(C)]
 #[derive(Clone, Copy)]
 pub struct OrderFrame {
@@ -30,92 +29,75 @@ pub struct OrderFrame {
     pub order: OrderFields,
 }
 
-impl OrderFields {
-    /// The fields of no order, which a bare frame has.
-    const NONE: OrderFields = OrderFields {
-        tag: 0,
-        value: 0,
-        bearing: 0,
-        elevation: 0,
-    };
+impl Plain for Order {
+    type Fields = OrderFields;
 
-    /// The fields of an order.
-    fn of(order: Order) -> OrderFields
-        ensures { result ≡ fields_of order }
-    {
-        match order {
+    type Frame = OrderFrame;
+
+    ghost form = { order_form };
+
+    fn none() -> OrderFields {
+        OrderFields {
+            tag: 0,
+            value: 0,
+            bearing: 0,
+            elevation: 0,
+        }
+    }
+
+    fn fields(self) -> OrderFields {
+        match self {
             Order::Tune { khz } => OrderFields {
                 tag: 1,
                 value: khz,
-                ..Self::NONE
+                ..Self::none()
             },
             Order::Point { bearing, elevation } => OrderFields {
                 tag: 2,
                 bearing,
                 elevation,
-                ..Self::NONE
+                ..Self::none()
             },
             Order::Note { number } => OrderFields {
                 tag: 3,
                 value: number,
-                ..Self::NONE
+                ..Self::none()
             },
         }
     }
 
-    /// The order with these fields, which may be out of range. A tag that is none gives one that is: a tuning to 0 kHz.
-    fn to_order(self) -> Order
-        ensures { result ≡ order_of self }
-    {
-        match self.tag {
-            1 => Order::Tune { khz: self.value },
+    /// A tag that is none gives an order that is out of range: a tuning to 0 kHz.
+    fn element(fields: OrderFields) -> Order {
+        match fields.tag {
+            1 => Order::Tune { khz: fields.value },
             2 => Order::Point {
-                bearing: self.bearing,
-                elevation: self.elevation,
+                bearing: fields.bearing,
+                elevation: fields.elevation,
             },
-            3 => Order::Note { number: self.value },
+            3 => Order::Note {
+                number: fields.value,
+            },
             _ => Order::Tune { khz: 0 },
         }
     }
-}
 
-impl OrderFrame {
-    /// The frame in plain fields.
-    pub(crate) fn of(frame: Frame<Order>) -> OrderFrame
-        ensures { result ≡ plain_of frame }
+    fn packed(plain: PlainFrame<OrderFields>) -> OrderFrame
+        ensures { result ≡ packed plain }
     {
-        match frame {
-            Frame::Bare { ack } => OrderFrame {
-                laden: false,
-                ack,
-                number: 0,
-                order: OrderFields::NONE,
-            },
-            Frame::Laden {
-                ack,
-                number,
-                element,
-            } => OrderFrame {
-                laden: true,
-                ack,
-                number,
-                order: OrderFields::of(element),
-            },
+        OrderFrame {
+            laden: plain.laden,
+            ack: plain.ack,
+            number: plain.number,
+            order: plain.element,
         }
     }
 
-    /// The frame that the fields tell.
-    pub(crate) fn to_frame(&self) -> Frame<Order>
-        ensures { result ≡ frame_of self.now }
-    {
-        if self.laden {
-            Frame::Laden {
-                ack: self.ack,
-                number: self.number,
-                element: self.order.to_order(),
-            }
-        } else {
-            Frame::Bare { ack: self.ack }
+    fn unpacked(frame: &OrderFrame) -> PlainFrame<OrderFields> {
+        PlainFrame {
+            laden: frame.laden,
+            ack: frame.ack,
+            number: frame.number,
+            element: frame.order,
         }
     }
 }

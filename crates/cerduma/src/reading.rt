@@ -1,9 +1,9 @@
-//! Frames of the hut-bound stream, in plain fields.
+//! Readings in plain fields.
 ghost use Rattle.std.specs.Prelude.{◌≡◌};
-ghost use Rattle.cerduma.specs.Readings.{fields_of, reading_of, plain_of, frame_of};
+ghost use Rattle.cerduma.specs.Readings.{packed, reading_form};
 
+use crate::plain::{Plain, PlainFrame};
 use element::reading::Reading;
-use frame::Frame;
 
 /// The fields of a reading, in the units of `Reading`.
 #[repr(C)]
@@ -16,8 +16,7 @@ pub struct ReadingFields {
     pub pressure: u16,
 }
 
-/// A frame that carries a reading, or none. A bare one that was read has 0 for its number and in all fields of its reading, and
-/// of one that is written these are not looked at.
+/// A frame that carries a reading, or none.
 #[repr(C)]
 #[derive(Clone, Copy)]
 pub struct ReadingFrame {
@@ -27,25 +26,25 @@ pub struct ReadingFrame {
     pub reading: ReadingFields,
 }
 
-impl ReadingFields {
-    /// The fields of a reading.
-    fn of(reading: Reading) -> ReadingFields
-        ensures { result ≡ fields_of reading }
-    {
+impl Plain for Reading {
+    type Fields = ReadingFields;
+
+    type Frame = ReadingFrame;
+
+    ghost form = { reading_form };
+
+    fn none() -> ReadingFields {
         ReadingFields {
-            time: reading.time,
-            height: reading.height,
-            temperature: reading.temperature,
-            humidity: reading.humidity,
-            pressure: reading.pressure,
+            time: 0,
+            height: 0,
+            temperature: 0,
+            humidity: 0,
+            pressure: 0,
         }
     }
 
-    /// The reading with these fields, which may be out of range.
-    fn to_reading(self) -> Reading
-        ensures { result ≡ reading_of self }
-    {
-        Reading {
+    fn fields(self) -> ReadingFields {
+        ReadingFields {
             time: self.time,
             height: self.height,
             temperature: self.temperature,
@@ -53,54 +52,34 @@ impl ReadingFields {
             pressure: self.pressure,
         }
     }
-}
 
-impl ReadingFrame {
-    /// What stands for the reading of a bare frame.
-    const NO_READING: ReadingFields = ReadingFields {
-        time: 0,
-        height: 0,
-        temperature: 0,
-        humidity: 0,
-        pressure: 0,
-    };
-
-    /// The frame in plain fields.
-    pub(crate) fn of(frame: Frame<Reading>) -> ReadingFrame
-        ensures { result ≡ plain_of frame }
-    {
-        match frame {
-            Frame::Bare { ack } => ReadingFrame {
-                laden: false,
-                ack,
-                number: 0,
-                reading: Self::NO_READING,
-            },
-            Frame::Laden {
-                ack,
-                number,
-                element,
-            } => ReadingFrame {
-                laden: true,
-                ack,
-                number,
-                reading: ReadingFields::of(element),
-            },
+    fn element(fields: ReadingFields) -> Reading {
+        Reading {
+            time: fields.time,
+            height: fields.height,
+            temperature: fields.temperature,
+            humidity: fields.humidity,
+            pressure: fields.pressure,
         }
     }
 
-    /// The frame that the fields tell.
-    pub(crate) fn to_frame(&self) -> Frame<Reading>
-        ensures { result ≡ frame_of self.now }
+    fn packed(plain: PlainFrame<ReadingFields>) -> ReadingFrame
+        ensures { result ≡ packed plain }
     {
-        if self.laden {
-            Frame::Laden {
-                ack: self.ack,
-                number: self.number,
-                element: self.reading.to_reading(),
-            }
-        } else {
-            Frame::Bare { ack: self.ack }
+        ReadingFrame {
+            laden: plain.laden,
+            ack: plain.ack,
+            number: plain.number,
+            reading: plain.element,
+        }
+    }
+
+    fn unpacked(frame: &ReadingFrame) -> PlainFrame<ReadingFields> {
+        PlainFrame {
+            laden: frame.laden,
+            ack: frame.ack,
+            number: frame.number,
+            element: frame.reading,
         }
     }
 }
