@@ -1,9 +1,13 @@
 -- What was written is heard as the frame that it was written of.
-use Rattle.std.proofs.Common.{◌≡◌, ℕ, ◌≤◌, List, length, Some, None, Ok, sym, ap, ◌∙◌, arith}
+use Rattle.std.proofs.Common.{◌≡◌, ℕ, ◌≤◌, List, length, take, drop, Some, None, Ok, Option, Result, sym, refl, ap, ◌∙◌, subst, arith}
+use Rattle.std.proofs.lemmas.List.{take_at}
+use Rattle.octets.specs.Areas.{written_unless}
 use Rattle.element.specs.Kinds.{Coding, fault_of}
 use Rattle.refusal.specs.Refusals.{unless}
+use Rattle.refusal.specs.declared.Refusal.{Refusal}
 use Rattle.frame.specs.Formats.{frame_bytes, mapped, not_below_cycle}
 use Rattle.frame.specs.Reads.{hear_from, element_read}
+use Rattle.frame.specs.Trips.{HeardBack, Sized}
 use Rattle.frame.specs.Writes.{bytes_of, element_refusal}
 use Rattle.frame.specs.declared.Format.{Format}
 use Rattle.frame.specs.declared.Frame.{Frame}
@@ -28,3 +32,19 @@ module _ {K : Type 0} (kind : Coding K) (format : Format) (exact : (e : K) → l
       let size = long f narrow in
       let whole = reads_back format kind.width (mapped kind.written f) acks numbers narrow (grind (arith, exact)) (grind arith) in
       (omega (arith, ap length fits.0), omega (arith, ap length fits.0), ap (hear_from kind format) (sym fits.0) ∙ ap (element_read kind) whole ∙ understands f fits.1)
+
+  module _ (f : Frame K) (r : Result ℕ Refusal) (old area : List ℕ) (acks : format.cycles.ack ≤ 65536) (numbers : format.cycles.number ≤ 65536) (narrow : kind.width ≤ 18) (past : unless {A = Unit {0}} tt (not_below_cycle format f) ≡ Ok tt) where
+    wrote_unless : (o : Option Refusal) → element_refusal kind f ≡ o → (r, area) ≡ written_unless o (bytes_of kind format f) old → Sized r × HeardBack kind format f area r
+    wrote_unless None fit written =
+        let bs = bytes_of kind format f in
+        let heard = heard_back f bs acks numbers narrow past (ap (unless bs) fit) in
+        let is = sym (ap (λ t. t.0) written) in
+        let front = ap (take (length bs)) (ap (λ t. t.1) written) ∙ take_at bs (drop (length bs) old) (length bs) refl in
+        (subst Sized is (heard.0, heard.1), subst (HeardBack kind format f area) is (ap (hear_from kind format) front ∙ heard.2))
+    wrote_unless (Some e) fit written =
+        let is = sym (ap (λ t. t.0) written) in
+        (subst Sized is tt, subst (HeardBack kind format f area) is tt)
+
+    -- what was written of a frame into an area has 14 to 32 bytes and is heard as that frame
+    pub wrote : (r, area) ≡ written_unless (element_refusal kind f) (bytes_of kind format f) old → Sized r × HeardBack kind format f area r
+    wrote = wrote_unless (element_refusal kind f) refl

@@ -1,15 +1,23 @@
 -- The check behind the bytes that it covers.
-use Rattle.std.proofs.Common.{◌≡◌, ℕ, ◌+◌, ◌-◌, ◌/◌, ◌%◌, ◌<◌, ◌≤◌, true, List, ◌++◌, length, get_or, take, drop, sym, ◌∙◌, arith, length-append, length-drop}
+use Rattle.std.proofs.Common.{◌≡◌, ℕ, ◌+◌, ◌-◌, ◌/◌, ◌%◌, ◌<◌, ◌≤◌, true, List, ◌++◌, length, get_or, take, drop, sym, ap, ◌∙◌, arith, length-append, length-drop}
 use Rattle.std.specs.List.{AllByRecursion}
 use Rattle.std.proofs.lemmas.List.{take_at, get_or_at, get_or-append-add, take-append-drop, take_all}
 use Rattle.std.proofs.lemmas.Bool.Decides.{nat_tests}
+use Rattle.octets.proofs.Fronts.{take-front, front_again}
 use Rattle.octets.proofs.Heads.{take_heads}
 use Rattle.octets.proofs.Numbers.{number_bytes16, part16}
+use Rattle.octets.specs.Areas.{front}
 use Rattle.octets.specs.Checks.{check}
 use Rattle.octets.specs.Numbers.{bytes16, number16}
 use Rattle.frame.specs.Formats.{header_bytes, sealed_bytes}
 use Rattle.frame.specs.Reads.{is_sealed}
 use Rattle.frame.specs.declared.header.Header.{Header}
+
+-- the check behind the front
+pub front_sealed : (n : ℕ) (old xs ys : List ℕ) → old ≡ front ys xs → length ys ≡ n → front (sealed_bytes (take n old)) old ≡ front (sealed_bytes ys) xs
+front_sealed n old xs ys e p =
+    let t : take n old ≡ ys = ap (take n) e ∙ take-front n ys xs p in
+    ap (λ u. front (sealed_bytes u) old) t ∙ ap (front (sealed_bytes ys)) e ∙ front_again ys (bytes16 (check ys)) xs
 
 -- how many bytes a header, what follows it and the check are
 pub length_sealed : (h : Header) (bs : List ℕ) → length (sealed_bytes (header_bytes h ++ bs)) ≡ 14 + length bs

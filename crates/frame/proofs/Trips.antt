@@ -26,7 +26,7 @@ through : {A : Type 0} (a b c : Bool) (x y z : Refusal) (r : Result A Refusal) �
 through a b c x y z r p q s = rw (p, q, s)
 
 -- a header, what follows it and their check are read as what the header says
-reads_header : (format : Format) (w : ℕ) (h : Header) (e : List ℕ) → length e ≤ 18 → h.ack < 65536 → h.number < 65536 → read_from format w (sealed_bytes (header_bytes h ++ e)) ≡ kept_on_cycle format (frame_in format.sender w h e)
+pub reads_header : (format : Format) (w : ℕ) (h : Header) (e : List ℕ) → length e ≤ 18 → h.ack < 65536 → h.number < 65536 → read_from format w (sealed_bytes (header_bytes h ++ e)) ≡ kept_on_cycle format (frame_in format.sender w h e)
 reads_header format w h e narrow a n =
     let u = header_bytes h ++ e in
     let bs = sealed_bytes u in

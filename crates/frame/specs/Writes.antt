@@ -1,7 +1,6 @@
 -- What writing a frame answers, and what the area then holds.
-use Rattle.std.specs.Prelude.{ℕ, List, None, Ok, Err, Option, Result}
+use Rattle.std.specs.Prelude.{ℕ, List, None, Option, Result}
 use Rattle.std.specs.Option.{option_or}
-use Rattle.arrayvec.specs.ArrayVec.{ArrayVec}
 use Rattle.octets.specs.Areas.{written_unless}
 use Rattle.element.specs.Kinds.{Coding, fault_of, out_of_range}
 use Rattle.refusal.specs.declared.Refusal.{Refusal}
@@ -9,11 +8,6 @@ use Rattle.frame.specs.Formats.{frame_bytes, mapped, not_below_cycle}
 use Rattle.frame.specs.declared.Format.{Format}
 use Rattle.frame.specs.declared.Frame.{Frame}
 use Rattle.frame.specs.declared.Frame.TheVariants.{Bare, Laden}
-
--- the bytes that a vector in an answer holds
-abbrev pub items_in : Result (ArrayVec ℕ) Refusal → Result (List ℕ) Refusal
-items_in (Ok v) = Ok v.items
-items_in (Err r) = Err r
 
 module _ {K : Type 0} (kind : Coding K) where
   -- the refusal of a frame whose element has a field out of range

@@ -1,53 +1,75 @@
 //! Writing frames.
-ghost use Rattle.std.specs.Prelude.{◌≡◌, ◌≤◌, ◌++◌, length};
-ghost use Rattle.refusal.specs.Refusals.{unless};
+ghost use Rattle.std.specs.Prelude.{◌≡◌, ◌+◌, ◌≤◌, ◌++◌, length, take, None, Ok};
+ghost use Rattle.octets.specs.Areas.{front, written_unless};
 ghost use Rattle.frame.specs.Formats.{frame_bytes, header_bytes, mapped, sealed_bytes};
 ghost use Rattle.frame.specs.Trips.{HeardBack, Sized};
-ghost use Rattle.frame.specs.Writes.{items_in, element_refusal, write_into};
+ghost use Rattle.frame.specs.Writes.{element_refusal, write_into};
 
-use crate::header::{Header, Tag};
+use crate::header::{HEADER, Header, Tag};
 use crate::{Format, Frame, LONGEST, Side};
-use arrayvec::ArrayVec;
 use element::{Kind, WIDEST};
 use octets::check_of;
 use refusal::Refusal;
 
-/// The bytes of a header, those of an element, and the check of both.
-fn with_check(header: Header, element: &[u8]) -> ArrayVec<u8, LONGEST>
-    requires { length element.now ≤ 18 }
-    ensures { result.items ≡ sealed_bytes (header_bytes header ++ element.now) }
+/// Writes a part behind the first n bytes of the area.
+fn append(area: &mut [u8; LONGEST], n: usize, part: &[u8])
+    requires { n + length part.now ≤ 32 }
+    ensures { area.new ≡ front (take n area.old ++ part.now) area.old }
 {
-    let mut bytes = ArrayVec::new();
-    bytes.try_extend_from_slice(&header.bytes()).unwrap();
-    bytes.try_extend_from_slice(element).unwrap();
-    let check = check_of(&bytes).to_be_bytes();
-    bytes.try_extend_from_slice(&check).unwrap();
-    bytes
+    area[n..n + part.len()].copy_from_slice(part);
+}
+
+/// Writes the bytes of a header, those of an element, and the check of both into the front of the area, and answers how many
+/// bytes these are. It is inlined, since copying is quicker where it is known how wide a kind is.
+#[inline(always)]
+fn write_with_check(header: Header, element: &[u8], area: &mut [u8; LONGEST]) -> usize
+    requires { length element.now ≤ 18 }
+    ensures { (Ok result, area.new) ≡ written_unless None (sealed_bytes (header_bytes header ++ element.now)) area.old }
+{
+    let n = HEADER + element.len();
+    append(area, 0, &header.bytes());
+    append(area, HEADER, element);
+    let check = check_of(&area[..n]).to_be_bytes();
+    append(area, n, &check);
+    n + check.len()
 }
 
 impl<K: Kind> Frame<K> {
-    /// The frame's bytes, whatever its numbers; refused where a field of its element is out of range.
+    /// Writes the frame, whatever its numbers, into the front of the area, and answers how many bytes it has; refused where a
+    /// field of its element is out of range.
     #[tactic(auto, unfolding(crate::specs::Formats::frame_bytes))]
-    fn bytes(&self, sender: Side) -> Result<ArrayVec<u8, LONGEST>, Refusal>
-        ensures { items_in result ≡ unless (frame_bytes sender (mapped K.coding.written self.now)) (element_refusal K.coding self.now) }
+    fn write_by(&self, sender: Side, area: &mut [u8; LONGEST]) -> Result<usize, Refusal>
+        ensures { (result, area.new) ≡ written_unless (element_refusal K.coding self.now) (frame_bytes sender (mapped K.coding.written self.now)) area.old }
     {
-        let mut area = [0; WIDEST];
-        let (tag, ack, number, width) = match *self {
-            Frame::Bare { ack } => (Tag::Bare, ack, 0, 0),
+        let sender = u8::from(sender);
+        match *self {
+            Frame::Bare { ack } => {
+                let header = Header {
+                    tag: Tag::Bare as u8,
+                    sender,
+                    ack,
+                    number: 0,
+                    width: 0,
+                };
+                Ok(write_with_check(header, &[], area))
+            }
             Frame::Laden {
                 ack,
                 number,
                 element,
-            } => (Tag::Laden, ack, number, element.write(&mut area)?),
-        };
-        let header = Header {
-            tag: tag as u8,
-            sender: u8::from(sender),
-            ack,
-            number,
-            width: width as u8,
-        };
-        Ok(with_check(header, &area[..width]))
+            } => {
+                let mut bytes = [0; WIDEST];
+                let width = element.write(&mut bytes)?;
+                let header = Header {
+                    tag: Tag::Laden as u8,
+                    sender,
+                    ack,
+                    number,
+                    width: width as u8,
+                };
+                Ok(write_with_check(header, &bytes[..width], area))
+            }
+        }
     }
 }
 
@@ -62,7 +84,5 @@ pub fn write<K: Kind>(
     ensures heard { HeardBack K.coding format frame.now area.new result }
 {
     frame.on_cycle(format)?;
-    let bytes = frame.bytes(format.sender)?;
-    area[..bytes.len()].copy_from_slice(&bytes);
-    Ok(bytes.len())
+    frame.write_by(format.sender, area)
 }

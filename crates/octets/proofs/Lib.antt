@@ -1,4 +1,5 @@
 pub mod Changes
+pub mod Fronts
 pub mod Heads
 pub mod Numbers
 pub mod Sums

@@ -20,7 +20,7 @@ word_first (a ∷ b ∷ c ∷ d ∷ []) rest s e = grind (arith, nat_tests)
 word_first (a ∷ b ∷ c ∷ d ∷ h ∷ x) rest s e = absurd (omega (arith, length-append {A = ℕ}))
 
 -- to bring a carry round does not change a folded sum
-folded_carry : (a b s : ℕ) → folded (ones_sum a b + s) ≡ folded (a + b + s)
+pub folded_carry : (a b s : ℕ) → folded (ones_sum a b + s) ≡ folded (a + b + s)
 folded_carry a b s = grind (arith, nat_tests)
 
 -- a sum, and the first word of some bytes added to it
