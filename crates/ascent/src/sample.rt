@@ -59,7 +59,7 @@ fn tell_arrivals(rt: &impl Print, frame: Frame<Reading>, bytes: &[u8]) -> io::Re
 }
 
 /// A reading is written into a frame; what the ends make of it, whole and damaged.
-pub(crate) fn tell_sample(rt: &(impl Print + AllocGlobal)) -> anyhow::Result<()> {
+pub(crate) fn tell_sample(rt: &impl Print) -> anyhow::Result<()> {
     let frame = Frame::Laden {
         ack: ACK,
         number: NUMBER,
@@ -67,11 +67,12 @@ pub(crate) fn tell_sample(rt: &(impl Print + AllocGlobal)) -> anyhow::Result<()>
     };
     let mut area = [0; LONGEST];
     let n = write(HUT_BOUND, &frame, &mut area)?;
-    let bytes = &area[..n];
+    let bytes = &mut area[..n];
     println!(rt;
         "It goes out as reading number {NUMBER} with acknowledgement {ACK}, in {n} bytes:"
     )?;
     show_bytes(rt, bytes)?;
     tell_arrivals(rt, frame, bytes)?;
-    tell_damage(rt, bytes)
+    tell_damage(rt, bytes)?;
+    Ok(())
 }
