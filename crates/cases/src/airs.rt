@@ -1,9 +1,9 @@
 //! The worked case of airs.
 use crate::Flown;
+use crate::refusals::told;
 use air::{Air, Gauge, Lent};
 use octets::LONGEST;
 use pool::Pool;
-use refusal::Refusal;
 use shelf::{CELL, Shelf};
 use tight::Tight;
 use worked::{BLANK, holds_only};
@@ -19,7 +19,7 @@ fn is_held_up<A: Air>(air: &mut A, k: usize) -> bool {
     let mut area = [BLANK; LONGEST];
     let waiting = air.waiting();
     let oldest = air.count(0).ok();
-    let refused = air.take(k, &mut area) == Err(Refusal::BoundReached);
+    let refused = air.take(k, &mut area).map_err(told) == Err((8, None));
     refused && holds_only(&area, &[]) && air.waiting() == waiting && air.count(0).ok() == oldest
 }
 

@@ -1,4 +1,5 @@
 //! The worked cases of frames and elements.
+use crate::refusals::told;
 use element::Kind;
 use element::order::Order;
 use element::ozone::Ozone;
@@ -85,8 +86,8 @@ pub(crate) fn humidity() -> bool {
     };
     let heard = hear::<Reading>(frames_of(Side::Mast), &bytes);
     humid(1_000).make() == Ok(humid(1_000))
-        && humid(1_001).make() == Err(Refusal::FieldOutOfRange)
-        && heard == Err(Refusal::NoElement { place: 22 })
+        && humid(1_001).make().map_err(told) == Err((17, None))
+        && heard.map_err(told) == Err((15, Some(22)))
 }
 
 /// The worked example of RFC 1071: the words sum to ddf2, and the check is its complement.
@@ -126,8 +127,8 @@ pub(crate) fn coldest_cell() -> bool {
     let bytes = b"MHL\x00\x01\x02\x01\x00\x03\x00\x05\x08\x00\x00\x10\x74\x04\xD2\xEC\x77\x5A\xEF";
     let heard = hear::<Ozone>(frames_of(Side::Mast), bytes);
     ozone_at(-5_000).make() == Ok(ozone_at(-5_000))
-        && ozone_at(-5_001).make() == Err(Refusal::FieldOutOfRange)
-        && heard == Err(Refusal::NoElement { place: 18 })
+        && ozone_at(-5_001).make().map_err(told) == Err((17, None))
+        && heard.map_err(told) == Err((15, Some(18)))
 }
 
 /// The mast's frame with a wind of 421.2 seconds from release: 271.50 degrees, and 8.3 metres a second.

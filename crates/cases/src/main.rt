@@ -23,6 +23,7 @@ mod frames;
 mod kinds;
 mod links;
 mod numbers;
+mod refusals;
 mod theorems;
 
 /// Whether a case held on each of four sorts of air.
