@@ -48,6 +48,15 @@ impl TryFrom<u8> for Tag {
 }
 
 impl Order {
+    /// The tag of an order to tune.
+    pub const TUNE: u8 = Tag::Tune as u8;
+
+    /// The tag of an order to point.
+    pub const POINT: u8 = Tag::Point as u8;
+
+    /// The tag of a launch note.
+    pub const NOTE: u8 = Tag::Note as u8;
+
     /// The lowest frequency, in kHz.
     pub const MIN_KHZ: u32 = 400_150;
 

@@ -135,6 +135,7 @@ fn ends_of_ranges() -> Result<(), Fail> {
     )?;
     check_eq(Ozone::MAX_PARTIAL_PRESSURE, 5_000)?;
     check_eq((Wind::MAX_DIRECTION, Wind::MAX_SPEED), (35_999, 2_000))?;
+    check_eq((Order::TUNE, Order::POINT, Order::NOTE), (1, 2, 3))?;
     check_eq((Order::MIN_KHZ, Order::MAX_KHZ), (400_150, 406_000))?;
     check_eq((Order::MAX_BEARING, Order::MAX_ELEVATION), (35_999, 9_000))
 }
